@@ -1,13 +1,14 @@
 -- Characters that no rule on clusters names, and those that are in the ranges of the code.
-use Rattle.std.proofs.Common.{◌≡◌, ◌≢◌, ℕ, Bool, true, false, not, ◌&&◌, ◌||◌, ◌==◌, List, [], ◌∷◌, unwrap_or, refl, sym, ap, ◌∙◌, eqb-true}
-use Rattle.std.proofs.lemmas.Bool.{and_parts}
+use Rattle.std.proofs.Common.{◌≡◌, ◌≢◌, ℕ, Bool, true, false, not, ◌&&◌, ◌||◌, ◌==◌, List, [], ◌∷◌, inl, inr, unwrap_or, refl, sym, ap, ap₂, subst, ◌∙◌, eqb-true}
+use Rattle.std.specs.Int.{is_in_range}
+use Rattle.std.proofs.lemmas.Bool.{and_parts, or_cases}
 use Rattle.ucd_table.specs.Rows.{Range, in_ranges}
 use Rattle.ucd_table.proofs.StepsLemmas.{rises_from}
 use Rattle.ucd_table.proofs.Stepped.{zip_stepped, of_ranges}
 use Rattle.ucd_table.proofs.Facts.{Stepped-everywhere}
 use Rattle.ucd_breaks.specs.GraphemeClusterBreak.{grapheme_cluster_break, grapheme_cluster_break_number}
 use Rattle.ucd_breaks.specs.declared.GraphemeClusterBreak.{GraphemeClusterBreak}
-use Rattle.ucd_breaks.specs.declared.GraphemeClusterBreak.TheVariants.{Lf, Other}
+use Rattle.ucd_breaks.specs.declared.GraphemeClusterBreak.TheVariants.{Lf, Lv, Lvt, Other}
 use Rattle.ucd_breaks.proofs.Computing.{ucd_breaks}
 use Rattle.ucd_breaks.proofs.GraphemeClusterBreakLemmas.{grapheme_cluster_break_stepped, grapheme_cluster_break_number_injective}
 use Rattle.ucd_derived.specs.IndicConjunctBreak.{indic_conjunct_break, indic_conjunct_break_number}
@@ -18,8 +19,8 @@ use Rattle.ucd_derived.proofs.IndicConjunctBreakLemmas.{indic_conjunct_break_ste
 use Rattle.ucd_emoji.specs.Binary.{is_extended_pictographic}
 use Rattle.ucd_emoji.proofs.BinaryLemmas.{is_extended_pictographic_stepped}
 use Rattle.ucd_emoji.proofs.Computing.{ucd_emoji}
-use Rattle.unicode_segmentation.specs.Grapheme.{is_grapheme_break, break_by_pair, is_consonant, ends_in_linker, ends_in_pictograph, ends_in_half_flag}
-use Rattle.ansi_columns.specs.BreakStates.{links, break_state_of, is_other, IsUnnamed}
+use Rattle.unicode_segmentation.specs.Grapheme.{is_grapheme_break, break_by_pair, is_consonant, is_extend, is_zwj, is_regional, ends_in_linker, ends_in_pictograph, ends_in_half_flag}
+use Rattle.ansi_columns.specs.BreakStates.{links, break_state_of, is_other, IsSingle, IsSingleValue, IsUnnamed}
 use Rattle.ansi_columns.specs.declared.break_state.BreakState.{BreakState}
 use Rattle.ansi_columns.proofs.BreakLemmas.{break_state-push, joins, is_grapheme_break-decided}
 
@@ -94,6 +95,132 @@ IsUnnamed-ordinary c inside =
       conjunct = indic_conjunct_break_number_injective _ _ (eqb-true _ _ values.1);
       pictograph = not_true _ parts.1;
     }
+
+-- ---- Hangul syllables
+
+abbrev pub syllable_ranges : List Range
+syllable_ranges = (0xAC00, 0xD7A3) ∷ []
+
+abbrev is_number : ℕ → GraphemeClusterBreak → Bool
+is_number n g = grapheme_cluster_break_number g == n
+
+abbrev is_named_syllable : GraphemeClusterBreak → IndicConjunctBreak → Bool
+is_named_syllable g i = (is_number (grapheme_cluster_break_number Lv) g || is_number (grapheme_cluster_break_number Lvt) g) && (indic_conjunct_break_number i == indic_conjunct_break_number InCb.None)
+
+all_syllables : (c : ℕ) → (not (in_ranges syllable_ranges c) || (is_named_syllable (grapheme_cluster_break c) (indic_conjunct_break c) && not (is_extended_pictographic c))) ≡ true
+unfolding ucd_breaks ucd_derived ucd_emoji in_ranges rises_from
+all_syllables =
+    let values = zip_stepped is_named_syllable grapheme_cluster_break indic_conjunct_break grapheme_cluster_break_stepped indic_conjunct_break_stepped in
+    let tests = zip_stepped (λ b p. b && not p) _ is_extended_pictographic values is_extended_pictographic_stepped in
+    Stepped-everywhere _ (zip_stepped (λ r b. not r || b) (in_ranges syllable_ranges) _ (of_ranges syllable_ranges refl) tests) refl
+
+syllable-value : (g : GraphemeClusterBreak) → (is_number (grapheme_cluster_break_number Lv) g || is_number (grapheme_cluster_break_number Lvt) g) ≡ true → IsSingleValue g
+syllable-value g is = elim (or_cases _ _ is) [
+  | inl first ↦ inr (inl (grapheme_cluster_break_number_injective _ _ (eqb-true _ _ first)))
+  | inr second ↦ inr (inr (grapheme_cluster_break_number_injective _ _ (eqb-true _ _ second)))
+]
+
+syllable-inside : (c : ℕ) → is_in_range 0xAC00 0xD7A3 c ≡ true → in_ranges syllable_ranges c ≡ true
+unfolding in_ranges
+syllable-inside c inside = ap (λ b. b || false) inside
+
+syllable-outside : (c : ℕ) → is_in_range 0xAC00 0xD7A3 c ≡ false → in_ranges syllable_ranges c ≡ false
+unfolding in_ranges
+syllable-outside c outside = ap (λ b. b || false) outside
+
+pub IsSingle-syllable : (c : ℕ) → is_in_range 0xAC00 0xD7A3 c ≡ true → IsSingle c
+IsSingle-syllable c inside =
+    let parts = and_parts _ _ (rw (syllable-inside c inside) at (all_syllables c)) in
+    let values = and_parts _ _ parts.0 in
+    record {
+      break = syllable-value _ values.0;
+      conjunct = indic_conjunct_break_number_injective _ _ (eqb-true _ _ values.1);
+      pictograph = not_true _ parts.1;
+    }
+
+abbrev is_syllable_value : GraphemeClusterBreak → Bool
+is_syllable_value g = is_number (grapheme_cluster_break_number Lv) g || is_number (grapheme_cluster_break_number Lvt) g
+
+only_syllables : (c : ℕ) → (in_ranges syllable_ranges c || not (is_syllable_value (grapheme_cluster_break c))) ≡ true
+unfolding ucd_breaks in_ranges rises_from
+only_syllables = Stepped-everywhere _ (zip_stepped (λ r g. r || not (is_syllable_value g)) (in_ranges syllable_ranges) grapheme_cluster_break (of_ranges syllable_ranges refl) grapheme_cluster_break_stepped) refl
+
+-- any other one is unnamed
+pub single-elsewhere : (c : ℕ) → IsSingleValue (grapheme_cluster_break c) → is_in_range 0xAC00 0xD7A3 c ≡ false → Other ≡ grapheme_cluster_break c
+single-elsewhere c is outside =
+    let none : not (is_syllable_value (grapheme_cluster_break c)) ≡ true = rw (syllable-outside c outside) at (only_syllables c) in
+    elim is [
+      | inl e ↦ sym e
+      | inr named ↦ elim named [
+        | inl e ↦ absurd (let no : true ≡ false = sym none ∙ ap (λ g. not (is_syllable_value g)) e in cc no)
+        | inr e ↦ absurd (let no : true ≡ false = sym none ∙ ap (λ g. not (is_syllable_value g)) e in cc no)
+      ]
+    ]
+
+pub IsSingle-unnamed : (c : ℕ) → IsUnnamed c → IsSingle c
+IsSingle-unnamed c unnamed = record { break = inl unnamed.break; conjunct = unnamed.conjunct; pictograph = unnamed.pictograph }
+
+-- ---- characters that no rule joins to each other
+
+abbrev state_of : GraphemeClusterBreak → BreakState
+state_of v = record { last = v; is_linked = false; is_pictograph = false; is_joined = false; is_half_flag = false }
+
+single-joins_none : (v : GraphemeClusterBreak) → IsSingleValue v → (is_extend v ≡ false) × (is_zwj v ≡ false) × (is_regional v ≡ false)
+single-joins_none v is = elim is [
+  | inl e ↦ (ap is_extend e, ap is_zwj e, ap is_regional e)
+  | inr named ↦ elim named [
+    | inl e ↦ (ap is_extend e, ap is_zwj e, ap is_regional e)
+    | inr e ↦ (ap is_extend e, ap is_zwj e, ap is_regional e)
+  ]
+]
+
+-- after it, only its value is looked back at
+pub break_state-single : (c : ℕ) (before : List ℕ) (v : GraphemeClusterBreak) → IsSingle c → v ≡ grapheme_cluster_break c → state_of v ≡ break_state_of (c ∷ before)
+unfolding ends_in_linker ends_in_pictograph ends_in_half_flag
+break_state-single c before v single value =
+    let s = break_state_of before in
+    let none = single-joins_none v (subst IsSingleValue (sym value) single.break) in
+    break_state-push c s before refl v false false false false value
+    (ap (λ i. links i s.is_linked) (sym single.conjunct))
+    (ap₂ (λ p e. p || (e && s.is_pictograph)) (sym single.pictograph) (sym none.0))
+    (ap (λ z. z && s.is_pictograph) (sym none.1)) (ap (λ r. r && not s.is_half_flag) (sym none.2))
+
+single-pair : (v w : GraphemeClusterBreak) → IsSingleValue v → IsSingleValue w → unwrap_or (break_by_pair true v w) true ≡ true
+single-pair v w first second =
+    let pair : GraphemeClusterBreak → GraphemeClusterBreak → Bool = λ a b. unwrap_or (break_by_pair true a b) true in
+    elim first [
+      | inl e ↦ elim second [
+        | inl f ↦ ap₂ pair e f
+        | inr g ↦ elim g [
+          | inl f ↦ ap₂ pair e f
+          | inr f ↦ ap₂ pair e f
+        ]
+      ]
+      | inr d ↦ elim d [
+        | inl e ↦ elim second [
+          | inl f ↦ ap₂ pair e f
+          | inr g ↦ elim g [
+            | inl f ↦ ap₂ pair e f
+            | inr f ↦ ap₂ pair e f
+          ]
+        ]
+        | inr e ↦ elim second [
+          | inl f ↦ ap₂ pair e f
+          | inr g ↦ elim g [
+            | inl f ↦ ap₂ pair e f
+            | inr f ↦ ap₂ pair e f
+          ]
+        ]
+      ]
+    ]
+
+-- a cluster ends between two of them
+pub breaks-single : (before : List ℕ) (c d : ℕ) (cs : List ℕ) → IsSingle c → IsSingle d → is_grapheme_break true (c ∷ before) (d ∷ cs) ≡ true
+breaks-single before c d cs first second =
+    let v = grapheme_cluster_break c in
+    let w = grapheme_cluster_break d in
+    sym (is_grapheme_break-decided (state_of v) (c ∷ before) d cs (λ none. cc) (break_state-single c before v first refl) w refl (break_by_pair true v w) refl)
+    ∙ single-pair v w first.break second.break
 
 -- no other value has a pictograph
 abbrev only_other : GraphemeClusterBreak → Bool → Bool

@@ -1,8 +1,8 @@
 -- A summary of the characters before a place, as much as the rules on clusters look back at. No public contract cites it.
-use Rattle.std.specs.Prelude.{◌≡◌, ℕ, Bool, true, false, ◌&&◌, List, [], ◌∷◌, map}
+use Rattle.std.specs.Prelude.{◌≡◌, ◌⊎◌, ℕ, Bool, true, false, ◌&&◌, List, [], ◌∷◌, map}
 use Rattle.ucd_breaks.specs.GraphemeClusterBreak.{grapheme_cluster_break}
 use Rattle.ucd_breaks.specs.declared.GraphemeClusterBreak.{GraphemeClusterBreak}
-use Rattle.ucd_breaks.specs.declared.GraphemeClusterBreak.TheVariants.{Other}
+use Rattle.ucd_breaks.specs.declared.GraphemeClusterBreak.TheVariants.{Lv, Lvt, Other}
 use Rattle.ucd_derived.specs.IndicConjunctBreak.{indic_conjunct_break}
 use Rattle.ucd_derived.specs.declared.IndicConjunctBreak.{IndicConjunctBreak}
 use Rattle.ucd_derived.specs.declared.IndicConjunctBreak.TheVariants as InCb
@@ -44,5 +44,15 @@ break_state_of before = record {
 -- no rule on clusters names the character
 pub record IsUnnamed (c : ℕ) : Type 0 where
   pub break : grapheme_cluster_break c ≡ Other
+  pub conjunct : indic_conjunct_break c ≡ InCb.None
+  pub pictograph : is_extended_pictographic c ≡ false
+
+-- no rule on clusters joins a character of this value to another one of such a value
+abbrev pub IsSingleValue : GraphemeClusterBreak → Type 0
+IsSingleValue v = (v ≡ Other) ⊎ ((v ≡ Lv) ⊎ (v ≡ Lvt))
+
+-- no rule on clusters joins the character to another such one: it is unnamed or a Hangul syllable
+pub record IsSingle (c : ℕ) : Type 0 where
+  pub break : IsSingleValue (grapheme_cluster_break c)
   pub conjunct : indic_conjunct_break c ≡ InCb.None
   pub pictograph : is_extended_pictographic c ≡ false

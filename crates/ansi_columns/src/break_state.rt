@@ -1,13 +1,14 @@
 //! Whether a cluster ends between two characters (UAX #29). The test uses a summary of the
 //! characters before.
 ghost use Rattle.std.specs.Prelude.{◌≡◌, ◌≢◌, ℕ, List, true, [], ◌∷◌, IsTrue};
+ghost use Rattle.std.specs.Int.{is_in_range};
 ghost use Rattle.unicode_segmentation.specs.Grapheme.{is_grapheme_break, break_by_pair, is_extend};
 ghost use Rattle.unicode_segmentation.specs.Grapheme.{is_zwj, is_regional, is_consonant};
 ghost use Rattle.ucd_derived.specs.IndicConjunctBreak.{indic_conjunct_break};
 ghost use Rattle.ucd_breaks.specs.GraphemeClusterBreak.{grapheme_cluster_break};
 ghost use Rattle.ucd_emoji.specs.Binary.{is_extended_pictographic};
 ghost use Rattle.ansi_safe.specs.Safe.{is_printing};
-ghost use Rattle.ansi_columns.specs.BreakStates.{break_state_of, is_other, links, IsUnnamed};
+ghost use Rattle.ansi_columns.specs.BreakStates.{break_state_of, is_other, links, IsSingle, IsUnnamed};
 
 use ucd_breaks::GraphemeClusterBreak;
 use ucd_breaks::GraphemeClusterBreak::*;
@@ -49,8 +50,8 @@ impl BreakState {
         ensures { (before : List ℕ) → self ≡ break_state_of before →
             result ≡ break_state_of (c ∷ before) }
     {
-        if is_ordinary(c) {
-            return BreakState::start();
+        if is_single(c) {
+            return BreakState::after_single(c);
         }
         if c == '\n' {
             return BreakState {
@@ -68,6 +69,26 @@ impl BreakState {
             is_pictograph: is_pictograph(c, value) || (is_extend(value) && self.is_pictograph),
             is_joined: is_zwj(value) && self.is_pictograph,
             is_half_flag: is_regional(value) && !self.is_half_flag,
+        }
+    }
+
+    /// The summary after a character of which `is_single` is true.
+    #[inline(always)]
+    pub(crate) fn after_single(c: char) -> BreakState
+        requires { IsSingle c }
+        ensures { (before : List ℕ) → result ≡ break_state_of (c ∷ before) }
+    {
+        let last = if is_syllable(c) {
+            GraphemeClusterBreak::for_char(c)
+        } else {
+            Other
+        };
+        BreakState {
+            last,
+            is_linked: false,
+            is_pictograph: false,
+            is_joined: false,
+            is_half_flag: false,
         }
     }
 
@@ -93,7 +114,7 @@ impl BreakState {
 
 /// Whether the character is in a few common ranges: printable ASCII, Latin, Greek, Cyrillic,
 /// Armenian, Hebrew, Arabic, Chinese and Japanese. No rule on clusters names a character of them,
-/// and each is shown as it is. `walks::may_begin_ordinary` has the first bytes of these ranges.
+/// and each is shown as it is.
 #[inline(always)]
 pub(crate) fn is_ordinary(c: char) -> bool
     ensures unnamed { IsTrue result → IsUnnamed c }
@@ -108,6 +129,24 @@ pub(crate) fn is_ordinary(c: char) -> bool
         '\u{3400}'..='\u{9FFF}' | '\u{FF01}'..='\u{FF60}' => true,
         _ => false,
     }
+}
+
+/// Whether the character is ordinary or a Hangul syllable. A cluster ends between two of these
+/// characters, and each is shown as it is. `walks::may_begin_single` has their first bytes.
+#[inline(always)]
+pub(crate) fn is_single(c: char) -> bool
+    ensures single { IsTrue result → IsSingle c }
+    ensures printing { IsTrue result → IsTrue (is_printing c) }
+{
+    is_ordinary(c) || is_syllable(c)
+}
+
+/// Whether the character is a Hangul syllable.
+#[inline(always)]
+fn is_syllable(c: char) -> bool
+    ensures { result ≡ is_in_range 0xAC00 0xD7A3 c }
+{
+    matches!(c, '\u{AC00}'..='\u{D7A3}')
 }
 
 /// Whether the values of two neighbors alone require or forbid a break, or `None` if they don't

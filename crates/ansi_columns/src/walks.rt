@@ -12,7 +12,7 @@ ghost use Rattle.ansi_columns.specs.Walks.{before, after, seen_before, seen_afte
 ghost use Rattle.ansi_columns.specs.Walks.{IsRun, IsWalkIn, IsWalk, IsAnyWalk, IsNext, IsPastCluster, IsPastClusters};
 ghost use Rattle.ansi_columns.specs.Walks.{IsSeenNext, IsPrintable, IsPrintableFront, AreClustersIn, IsPastAscii, is_seen_ascii};
 
-use crate::break_state::{BreakState, is_ordinary};
+use crate::break_state::{BreakState, is_single};
 use crate::from_end;
 use crate::views::View;
 use ansi_items::ansitok::{Kind, Scanner};
@@ -61,7 +61,7 @@ impl Walk {
         }
     }
 
-    /// The same, without a fast path for ordinary characters.
+    /// The same, without a fast path.
     pub(crate) fn read_cluster(self, text: &str, view: View) -> Option<(Walk, usize)>
         requires { IsWalkIn view text.now self }
         ensures { MatchOption result (seen_after view text.now self.position ≡ []) (λ (walk, width).
@@ -85,23 +85,23 @@ impl Walk {
     }
 
     /// The walk after the next character and the columns of that character, if it and the one after
-    /// it in the run are ordinary. Then it is a cluster by itself.
+    /// it in the run are ordinary or Hangul syllables. Then it is a cluster by itself.
     #[inline(always)]
     fn next_ordinary(self, text: &str) -> Option<(Walk, usize)>
         requires { IsAnyWalk text.now self }
         ensures { IfSome result (λ (walk, width). (view : View) → IsWalkIn view text.now self →
             IsPastCluster view text.now self walk width) }
     {
-        if !may_begin_ordinary(*text.as_bytes().get(self.offset)?) {
+        if !may_begin_single(*text.as_bytes().get(self.offset)?) {
             return None;
         }
         let mut chars = text[self.offset..self.run_end].chars();
         let first = chars.next()?;
-        if !is_ordinary(first) {
+        if !is_single(first) {
             return None;
         }
         let second = chars.next()?;
-        if !is_ordinary(second) {
+        if !is_single(second) {
             return None;
         }
         let len = first.len_utf8();
@@ -109,13 +109,14 @@ impl Walk {
             position: self.position + len,
             offset: self.offset + len,
             run_end: self.run_end,
-            break_state: BreakState::start(),
+            break_state: BreakState::after_single(first),
         };
         Some((walk, char_width(first)))
     }
 
     /// The walk after characters that come next, each of which is a cluster by itself, and their
-    /// columns, at most `most`. They are printable ASCII or ordinary characters, or none.
+    /// columns, at most `most`. They are printable ASCII, ordinary characters or Hangul syllables, or
+    /// none.
     #[inline(always)]
     pub(crate) fn past_singles(self, text: &str, most: usize) -> (Walk, usize)
         requires { IsAnyWalk text.now self }
@@ -126,17 +127,16 @@ impl Walk {
         let run = &text.as_bytes()[self.offset..self.run_end];
         match (run.first(), run.get(1)) {
             (Some(0x20..=0x7E), None | Some(0..=0x7F)) => self.past_ascii(text, most),
-            (Some(0x20..=0x7E), Some(next)) if !may_begin_ordinary(*next) => (self, 0),
-            (Some(first), _) if may_begin_ordinary(*first) => self.past_ordinary(text, most),
+            (Some(0x20..=0x7E), Some(next)) if !may_begin_single(*next) => (self, 0),
+            (Some(first), _) if may_begin_single(*first) => self.past_ordinary(text, most),
             _ => (self, 0),
         }
     }
 
-    /// The walk after the ordinary characters that come next in the run, and their columns, at most
-    /// `most`. Each of them is a cluster by itself.
+    /// The walk after the ordinary characters and Hangul syllables that come next in the run, and
+    /// their columns, at most `most`. Each of them is a cluster by itself.
     ///
-    /// ASCII is passed only if it comes first. A character before one that isn't ordinary isn't
-    /// passed.
+    /// ASCII is passed only if it comes first. A character before one of another kind isn't passed.
     #[inline(always)]
     fn past_ordinary(self, text: &str, most: usize) -> (Walk, usize)
         requires { IsAnyWalk text.now self }
@@ -150,11 +150,11 @@ impl Walk {
         let Some(mut c) = chars.next() else {
             return (self, 0);
         };
-        if !is_ordinary(c) {
+        if !is_single(c) {
             return (self, 0);
         }
         'characters: while let Some(next) = chars.next() {
-            if !is_ordinary(next) {
+            if !is_single(next) {
                 break;
             }
             let width = char_width(c);
@@ -166,7 +166,7 @@ impl Walk {
                 position: walk.position + len,
                 offset: walk.offset + len,
                 run_end: walk.run_end,
-                break_state: BreakState::start(),
+                break_state: BreakState::after_single(c),
             };
             columns += width;
             if next.is_ascii() {
@@ -366,11 +366,11 @@ impl Walk {
     }
 }
 
-/// Whether an ordinary character may begin with this byte, perhaps among others. It saves decoding
-/// most characters that aren't ordinary.
+/// Whether a character of which `is_single` is true may begin with this byte, perhaps among others.
+/// It saves decoding most other characters.
 #[inline(always)]
-fn may_begin_ordinary(byte: u8) -> bool {
-    matches!(byte, 0x20..=0x7E | 0xC3..=0xCB | 0xCD..=0xDB | 0xE1..=0xE9 | 0xEF)
+fn may_begin_single(byte: u8) -> bool {
+    matches!(byte, 0x20..=0x7E | 0xC3..=0xCB | 0xCD..=0xDB | 0xE1..=0xED | 0xEF)
 }
 
 /// Whether a byte is a character of ASCII that is seen in any view.

@@ -3,12 +3,12 @@ use Rattle.ucd_emoji.specs.Binary.{is_extended_pictographic}
 use Rattle.ansi_columns.specs.BreakStates.{break_state_of}
 use Rattle.unicode_segmentation.specs.Grapheme.{is_extend, is_zwj, is_regional}
 use Rattle.ansi_columns.proofs.BreakLemmas.{or-then, or-else, and-then, and-else, break_state-push}
-use Rattle.ansi_columns.proofs.UnnamedLemmas.{break_state-unnamed, break_state-line_feed}
+use Rattle.ansi_columns.proofs.UnnamedLemmas.{break_state-line_feed}
 use Rattle.ansi_columns.proofs.break_state.BreakState.after.Goals.{then-is_pictograph, else-is_pictograph+then-is_extend, else-is_pictograph+else-is_extend, then-is_zwj, else-is_zwj}
 use Rattle.ansi_columns.proofs.break_state.BreakState.after.Goals as goal
 
-pub returns-then-is_ordinary : goal.returns-then-is_ordinary
-returns-then-is_ordinary c before is = c.start.ensures ∙ break_state-unnamed c.args.c before (c.is_ordinary.ensures.unnamed c.if-is_ordinary.true)
+pub returns-then-is_single : goal.returns-then-is_single
+returns-then-is_single c before is = c.after_single.ensures before
 
 pub returns-then-c-eq10 : goal.returns-then-c-eq10
 returns-then-c-eq10 c before is = break_state-line_feed before ∙ ap (λ d. break_state_of (d ∷ before)) (sym c.if-c-eq10.true)

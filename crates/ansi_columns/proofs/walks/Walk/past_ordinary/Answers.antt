@@ -22,9 +22,9 @@ returns-then-is_ascii-clause-past c view walk =
     let inv = c.characters.invariant in
     let len = c.len_utf8-len.ensures.len in
     let width = c.char_width-width.ensures in
-    let next = c.if-not-is_ordinary-2.ensures in
-    clusters-ordinary c.next-in-characters.new.self.rest.now c.utf8.text (inv.past view walk) (inv.rest ∙ ap (λ u. encode_utf8 c.characters.c ++ u) c.in-Some-next.ensures.steps.0) inv.unnamed inv.printing (next.unnamed refl) (next.printing refl)
-    (ap (λ n. w.position + n) len) (ap (λ n. w.offset + n) len) refl c.start.ensures width.value width.bound (omega arith)
+    let next = c.if-not-is_single-2.ensures in
+    clusters-ordinary c.next-in-characters.new.self.rest.now c.utf8.text (inv.past view walk) (inv.rest ∙ ap (λ u. encode_utf8 c.characters.c ++ u) c.in-Some-next.ensures.steps.0) inv.single inv.printing (next.single refl) (next.printing refl)
+    (ap (λ n. w.position + n) len) (ap (λ n. w.offset + n) len) refl c.after_single.ensures width.value width.bound (omega arith)
 
 pub characters-preserved : goal.characters-preserved
 characters-preserved c =
@@ -34,13 +34,13 @@ characters-preserved c =
     let first : IsNext t w c.characters.c = record { rest = c.characters.chars.rest.now; bytes = inv.rest } in
     let len = c.len_utf8-len.ensures.len in
     let width = c.char_width-width.ensures in
-    let next = c.if-not-is_ordinary-2.ensures in
+    let next = c.if-not-is_single-2.ensures in
     record {
       past = λ view walk.
-          clusters-ordinary c.next-in-characters.new.self.rest.now c.utf8.text (inv.past view walk) (inv.rest ∙ ap (λ u. encode_utf8 c.characters.c ++ u) c.in-Some-next.ensures.steps.0) inv.unnamed inv.printing (next.unnamed refl) (next.printing refl)
-          (ap (λ n. w.position + n) len) (ap (λ n. w.offset + n) len) refl c.start.ensures width.value width.bound (omega arith);
+          clusters-ordinary c.next-in-characters.new.self.rest.now c.utf8.text (inv.past view walk) (inv.rest ∙ ap (λ u. encode_utf8 c.characters.c ++ u) c.in-Some-next.ensures.steps.0) inv.single inv.printing (next.single refl) (next.printing refl)
+          (ap (λ n. w.position + n) len) (ap (λ n. w.offset + n) len) refl c.after_single.ensures width.value width.bound (omega arith);
       most = omega arith;
       rest = ap (λ n. slice_range t (w.offset + n) w.run_end) len ∙ rest_at t c.utf8.text w (inv.past c.requires.0 c.requires.1).walk c.characters.c first ∙ c.in-Some-next.ensures.steps.0;
-      unnamed = next.unnamed refl;
+      single = next.single refl;
       printing = next.printing refl;
     }

@@ -1,7 +1,7 @@
 use Rattle.std.proofs.Common.{◌≡◌, ◌≤◌, ◌++◌, true, length, slice_range, encode_utf8}
 use Rattle.ansi_safe.specs.Safe.{is_printing}
 use Rattle.ansi_columns.specs.declared.views.View.{View}
-use Rattle.ansi_columns.specs.BreakStates.{IsUnnamed}
+use Rattle.ansi_columns.specs.BreakStates.{IsSingle}
 use Rattle.ansi_columns.specs.Walks.{IsWalkIn, IsPastClusters}
 use Rattle.ansi_columns.proofs.walks.Walk.past_ordinary.Given as goal
 
@@ -11,7 +11,7 @@ invariant-characters l = record {
   past : (view : View) → IsWalkIn view l.text l.fn.self → IsPastClusters view l.text l.fn.self l.walk l.columns;
   most : l.columns ≤ l.most;
   rest : slice_range l.text l.walk.offset l.walk.run_end ≡ encode_utf8 l.c ++ l.chars.rest.now;
-  unnamed : IsUnnamed l.c;
+  single : IsSingle l.c;
   printing : is_printing l.c ≡ true;
 }
 
