@@ -62,6 +62,7 @@ impl Walk {
     }
 
     /// The same, without a fast path.
+    #[inline(always)]
     pub(crate) fn read_cluster(self, text: &str, view: View) -> Option<(Walk, usize)>
         requires { IsWalkIn view text.now self }
         ensures { MatchOption result (seen_after view text.now self.position ≡ []) (λ (walk, width).
