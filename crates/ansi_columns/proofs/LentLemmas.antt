@@ -54,7 +54,7 @@ first-left t s some = by s.next some
     by (At w) some = filled (lines_next t s.width (At w)) (lines_filled s.width w.position w.position w.position 0 (clusters_from t w.position))
     by Nothing some = absurd some
 
--- without a next line, there is none
+-- without a next line, no line is left
 pub none-left : (t : List ℕ) (s : Spans) → s.next ≡ Nothing → span_lines t s ≡ []
 unfolding lines_over
 none-left t s none = ap (lines_after t s) none

@@ -1,4 +1,4 @@
--- A walk over a character that prints and that no rule on clusters names, before another such character: it is a cluster by itself.
+-- A walk over a character that prints and that no rule on clusters joins to another such one, before another: it is a cluster by itself.
 use Rattle.std.proofs.Common.{◌≡◌, ◌≢◌, ℕ, ◌+◌, ◌*◌, ◌<◌, ◌≤◌, true, ◌&&◌, List, [], ◌∷◌, ◌++◌, length, slice_range, encode_utf8, refl, sym, ◌∙◌, ap, ap₂, arith, append_assoc, length-append}
 use Rattle.std.specs.Str.{IsUtf8}
 use Rattle.std.proofs.lemmas.Bool.{lt-ltb}
@@ -43,9 +43,9 @@ module _ (view : View) (t : List ℕ) (utf8 : IsUtf8 t) (w : Walk) (walk : IsWal
     length-slice_range t w.offset w.run_end walk.run.ordered walk.run.end_boundary.0,
   ))
 
-  pub past-ordinary : (v : Walk) (width : ℕ) → IsSingle c → is_printing c ≡ true → IsSingle d → is_printing d ≡ true → v.position ≡ w.position + length (encode_utf8 c) → v.offset ≡ w.offset + length (encode_utf8 c) → v.run_end ≡ w.run_end
+  pub past-single : (v : Walk) (width : ℕ) → IsSingle c → is_printing c ≡ true → IsSingle d → is_printing d ≡ true → v.position ≡ w.position + length (encode_utf8 c) → v.offset ≡ w.offset + length (encode_utf8 c) → v.run_end ≡ w.run_end
       → ((before : List ℕ) → v.break_state ≡ break_state_of (c ∷ before)) → width ≡ cluster_width (c ∷ []) → width ≤ 2 * length (encode_utf8 c) → IsPastCluster view t w v width
-  past-ordinary v width single printing single_next printing_next position offset run_end break_state width_is bound =
+  past-single v width single printing single_next printing_next position offset run_end break_state width_is bound =
       let seen_next : IsSeenNext view t w c = record { given = c; next = next; seen = seen-printing view c printing; size = refl } in
       let begin = walk_boundary t utf8 w walk in
       let past = seen_cluster-past w.position v.position utf8 begin (omega arith) walk (cluster-none view t w.position) seen_next position in
@@ -79,4 +79,4 @@ clusters-more {view} {t} {from} {w} {v} utf8 so_far step some =
 pub clusters-ordinary : {view : View} {t : List ℕ} {from w v : Walk} {n width c d : ℕ} (more : List ℕ) → IsUtf8 t → IsPastClusters view t from w n → slice_range t w.offset w.run_end ≡ encode_utf8 c ++ (encode_utf8 d ++ more) → IsSingle c → is_printing c ≡ true → IsSingle d → is_printing d ≡ true
     → v.position ≡ w.position + length (encode_utf8 c) → v.offset ≡ w.offset + length (encode_utf8 c) → v.run_end ≡ w.run_end → ((before : List ℕ) → v.break_state ≡ break_state_of (c ∷ before)) → width ≡ cluster_width (c ∷ []) → width ≤ 2 * length (encode_utf8 c) → 0 < width → IsPastClusters view t from v (n + width)
 clusters-ordinary {view} {t} {from} {w} {v} {n} {width} {c} {d} more utf8 so_far bytes single printing single_next printing_next position offset run_end break_state width_is bound some =
-    clusters-more utf8 so_far (past-ordinary view t utf8 w so_far.walk c d more bytes v width single printing single_next printing_next position offset run_end break_state width_is bound) some
+    clusters-more utf8 so_far (past-single view t utf8 w so_far.walk c d more bytes v width single printing single_next printing_next position offset run_end break_state width_is bound) some

@@ -1,4 +1,4 @@
--- Characters that no rule on clusters names, and those that are in the ranges of the code.
+-- Characters that no rule on clusters names, Hangul syllables, and those that are in the ranges of the code.
 use Rattle.std.proofs.Common.{◌≡◌, ◌≢◌, ℕ, Bool, true, false, not, ◌&&◌, ◌||◌, ◌==◌, List, [], ◌∷◌, inl, inr, unwrap_or, refl, sym, ap, ap₂, subst, ◌∙◌, eqb-true}
 use Rattle.std.specs.Int.{is_in_range}
 use Rattle.std.proofs.lemmas.Bool.{and_parts, or_cases}
@@ -156,9 +156,6 @@ single-elsewhere c is outside =
         | inr e ↦ absurd (let no : true ≡ false = sym none ∙ ap (λ g. not (is_syllable_value g)) e in cc no)
       ]
     ]
-
-pub IsSingle-unnamed : (c : ℕ) → IsUnnamed c → IsSingle c
-IsSingle-unnamed c unnamed = record { break = inl unnamed.break; conjunct = unnamed.conjunct; pictograph = unnamed.pictograph }
 
 -- ---- characters that no rule joins to each other
 

@@ -1,4 +1,4 @@
--- What one pass over a text of a cell finds, if that is printable ASCII and SGRs. No public contract cites it.
+-- What one pass over a text of a cell, or of a paragraph of one line, finds, if that is printable ASCII and SGRs. No public contract cites it.
 use Rattle.std.specs.Prelude.{◌≡◌, ℕ, ◌+◌, ◌-◌, ◌<◌, List, [], length, take, slice_index, IsTrue}
 use Rattle.std.specs.List.{list_all}
 use Rattle.ansi_items.specs.Plain.{plain, marks}
@@ -30,7 +30,7 @@ pub record IsPlainCell (t : List ℕ) (width left : ℕ) (style : Rendition) (la
   pub printable : IsTrue (list_all is_printable_byte (plain t))
   pub last_is : last ≡ last_byte (plain t)
 
--- The text before a walk is such a text and fits with the walk's run, as far as that is printable ASCII too.
+-- The text before a walk is such a text, also with printable ASCII of the walk's run. If the run begins with printable ASCII, the text before it fits and leaves this many columns.
 pub record IsAtRun (t : List ℕ) (width left : ℕ) (style : Rendition) (walk : Walk) : Type 0 where
   pub is_walk : IsWalkIn Shown t walk
   pub front : (n : ℕ) → IsPrintableFront t walk n → IsPlainText (take (walk.offset + n) t) style

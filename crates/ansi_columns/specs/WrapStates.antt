@@ -37,6 +37,7 @@ lines_next t width First = lines_from width 0 0 0 0 (clusters (plain t))
 lines_next t width (At walk) = lines_left t width (Some walk)
 lines_next t width Nothing = []
 
+-- a line is left
 abbrev pub HasNext : Next → Type 0
 HasNext First = Unit
 HasNext (At walk) = Unit
@@ -63,6 +64,7 @@ pub record AreTaken (t : List ℕ) (s : Spans) (walk : Walk) : Type 0 where
   pub taken : IsTaken t s.before s.taken walk
   pub link : IsCharRange t s.pen.link_start s.pen.link_end
 
+-- they are spans of t, if this is the next line
 abbrev pub AreSpansAt : List ℕ → Spans → Next → Type 0
 AreSpansAt t s First = AreNew s
 AreSpansAt t s (At walk) = AreTaken t s walk

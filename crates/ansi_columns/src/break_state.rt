@@ -114,9 +114,10 @@ impl BreakState {
 
 /// Whether the character is in a few common ranges: printable ASCII, Latin, Greek, Cyrillic,
 /// Armenian, Hebrew, Arabic, Chinese and Japanese. No rule on clusters names a character of them,
-/// and each is shown as it is.
+/// and each is shown as it is. A new range goes into `ordinary_ranges` of `UnnamedLemmas` too, and
+/// its first bytes into `walks::may_begin_single`.
 #[inline(always)]
-pub(crate) fn is_ordinary(c: char) -> bool
+fn is_ordinary(c: char) -> bool
     ensures unnamed { IsTrue result → IsUnnamed c }
     ensures printing { IsTrue result → IsTrue (is_printing c) }
 {
@@ -132,7 +133,7 @@ pub(crate) fn is_ordinary(c: char) -> bool
 }
 
 /// Whether the character is ordinary or a Hangul syllable. A cluster ends between two of these
-/// characters, and each is shown as it is. `walks::may_begin_single` has their first bytes.
+/// characters, and each is shown as it is.
 #[inline(always)]
 pub(crate) fn is_single(c: char) -> bool
     ensures single { IsTrue result → IsSingle c }

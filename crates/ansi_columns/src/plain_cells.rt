@@ -1,6 +1,6 @@
 //! The texts of cells that are printable ASCII and select graphic renditions alone. They stay as
 //! they are, and one pass tells their columns and the style at their end, or where they are cut and
-//! the style there.
+//! the style there. A paragraph that fits into one line is such a text too.
 ghost use Rattle.std.specs.Prelude.{◌≡◌, ◌<◌, ◌≤◌, ℕ, IfSome, MatchOption, IsTrue, length, slice_range};
 ghost use Rattle.std.specs.List.{list_all};
 ghost use Rattle.ansi_style.specs.States.{rendition_of};

@@ -55,7 +55,7 @@ impl Walk {
         ensures { MatchOption result (seen_after view text.now self.position ≡ []) (λ (walk, width).
             IsPastCluster view text.now self walk width) }
     {
-        match self.next_ordinary(text) {
+        match self.next_single(text) {
             Some(past) => Some(past),
             None => self.read_cluster(text, view),
         }
@@ -88,7 +88,7 @@ impl Walk {
     /// The walk after the next character and the columns of that character, if it and the one after
     /// it in the run are ordinary or Hangul syllables. Then it is a cluster by itself.
     #[inline(always)]
-    fn next_ordinary(self, text: &str) -> Option<(Walk, usize)>
+    fn next_single(self, text: &str) -> Option<(Walk, usize)>
         requires { IsAnyWalk text.now self }
         ensures { IfSome result (λ (walk, width). (view : View) → IsWalkIn view text.now self →
             IsPastCluster view text.now self walk width) }
@@ -129,7 +129,7 @@ impl Walk {
         match (run.first(), run.get(1)) {
             (Some(0x20..=0x7E), None | Some(0..=0x7F)) => self.past_ascii(text, most),
             (Some(0x20..=0x7E), Some(next)) if !may_begin_single(*next) => (self, 0),
-            (Some(first), _) if may_begin_single(*first) => self.past_ordinary(text, most),
+            (Some(first), _) if may_begin_single(*first) => self.past_letters(text, most),
             _ => (self, 0),
         }
     }
@@ -139,7 +139,7 @@ impl Walk {
     ///
     /// ASCII is passed only if it comes first. A character before one of another kind isn't passed.
     #[inline(always)]
-    fn past_ordinary(self, text: &str, most: usize) -> (Walk, usize)
+    fn past_letters(self, text: &str, most: usize) -> (Walk, usize)
         requires { IsAnyWalk text.now self }
         ensures past { (view : View) → IsWalkIn view text.now self →
             IsPastClusters view text.now self result.0 result.1 }

@@ -35,8 +35,8 @@ pub fn is_safe(text: &str, links: Links) -> bool
     rest.is_empty() || items_may_stay(rest, links)
 }
 
-/// A text without allowed characters at its front: nothing if all of its characters are allowed. What
-/// is left is as safe as the text, and leaves the same open.
+/// A text without the ordinary characters that it begins with: nothing if all of its characters are
+/// allowed. What is left is as safe as the text, and leaves the same open.
 #[inline(always)]
 fn after_allowed(text: &str) -> &str
     ensures safe { (links : Links) → is_safe links text.now ≡ is_safe links result.now }
@@ -65,7 +65,7 @@ fn items_may_stay(text: &str, links: Links) -> bool
 
 /// The pen after a text, or `None` if the text isn't safe. Doesn't allocate. (Own.)
 ///
-/// What is in front of the first sequence is read once, without looking for sequences.
+/// A safe text without sequences is read once, without looking for them.
 ///
 /// ```
 /// let pen = pen_if_safe("\x1b[31mred", Links::Remove).ok_or("not safe")?;

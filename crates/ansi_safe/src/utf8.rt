@@ -74,7 +74,7 @@ fn is_utf8_by_8(bytes: &[u8]) -> bool
     begins_ascii_8(&bytes[bytes.len() - 8..]) || is_rest_utf8(&bytes[8..])
 }
 
-/// The same of at least 16 bytes, 16 at a time.
+/// The same of at least 16 bytes, 16 at a time. The last 16 may overlap those before.
 #[inline(always)]
 fn is_utf8_by_16(bytes: &[u8]) -> bool
     requires { 16 ≤ length bytes.now }
@@ -90,7 +90,7 @@ fn is_utf8_by_16(bytes: &[u8]) -> bool
     begins_ascii_16(&bytes[bytes.len() - 16..]) || is_rest_utf8(rest)
 }
 
-/// Whether the bytes are UTF-8, for some that aren't all ASCII. `std` is quicker for short texts, and
+/// Whether the bytes are UTF-8, for bytes that aren't all ASCII. `std` is quicker for short texts, and
 /// `simdutf8` for long ones.
 #[inline(never)]
 fn is_rest_utf8(bytes: &[u8]) -> bool

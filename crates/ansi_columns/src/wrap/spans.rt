@@ -158,7 +158,7 @@ enum Next {
     First,
     /// The line that begins at a walk.
     At(Walk),
-    /// None is left.
+    /// No line is left.
     Nothing,
 }
 

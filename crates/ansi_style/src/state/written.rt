@@ -1,5 +1,5 @@
 //! The start and the close of a style, for printing. Each code has a sequence of its own.
-ghost use Rattle.std.specs.Prelude.{◌≡◌, ◌<◌, ◌++◌, ◌∷◌, [], Some, codes, decimal, flat_map};
+ghost use Rattle.std.specs.Prelude.{◌<◌, ◌++◌, ◌∷◌, [], Some, codes, decimal, flat_map};
 ghost use Rattle.std.specs.Prelude.{if◌then◌else◌, IsAscii};
 ghost use Rattle.ansi_style.specs.Writing.{WroteOnOk, color_sequence, color_sequence_if_set};
 ghost use Rattle.ansi_style.specs.States.{has_one, rendition_of};

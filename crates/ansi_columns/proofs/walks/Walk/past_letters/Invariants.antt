@@ -3,7 +3,7 @@ use Rattle.ansi_safe.specs.Safe.{is_printing}
 use Rattle.ansi_columns.specs.declared.views.View.{View}
 use Rattle.ansi_columns.specs.BreakStates.{IsSingle}
 use Rattle.ansi_columns.specs.Walks.{IsWalkIn, IsPastClusters}
-use Rattle.ansi_columns.proofs.walks.Walk.past_ordinary.Given as goal
+use Rattle.ansi_columns.proofs.walks.Walk.past_letters.Given as goal
 
 -- each character before the walk is a cluster by itself, and c, which is ordinary, is next
 abbrev pub invariant-characters : goal.invariant-characters

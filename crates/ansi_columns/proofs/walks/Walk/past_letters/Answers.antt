@@ -3,7 +3,7 @@ use Rattle.ansi_items.proofs.PlainLemmas.{length-plain}
 use Rattle.ansi_columns.specs.Walks.{IsNext}
 use Rattle.ansi_columns.proofs.OrdinaryLemmas.{clusters-ordinary}
 use Rattle.ansi_columns.proofs.WalkLemmas.{position_within, rest_at}
-use Rattle.ansi_columns.proofs.walks.Walk.past_ordinary.Goals as goal
+use Rattle.ansi_columns.proofs.walks.Walk.past_letters.Goals as goal
 
 pub overflow_add-walk : goal.overflow_add-walk
 overflow_add-walk c =
