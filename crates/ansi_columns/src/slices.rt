@@ -19,7 +19,7 @@ use crate::shown::push_blanks;
 use crate::views::View;
 use crate::walks::Walk;
 use ansi_safe::cells::cell_of;
-use ansi_safe::links::{LONGEST_ENDING, Pen, pen_after, pen_after_from};
+use ansi_safe::links::{Pen, pen_after, pen_after_from};
 use ansi_slice::slice::push_sequences;
 use ansi_style::styles;
 use std::alloc::{AllocError, Allocator};
@@ -234,12 +234,9 @@ fn has_column(text: &str, from: Walk) -> bool
     false
 }
 
-/// The greatest length of the start of a style, in bytes: `longest_start`.
-const LONGEST_START: usize = 163;
-
 impl<'t> Parts<'t> {
-    ghost use Rattle.std.specs.Prelude.{◌≡◌, ◌≤◌, ◌↔◌, ◌++◌, min, length, nat_eq};
-    ghost use Rattle.std.specs.Prelude.{IfOk, IsTrue, IsOk, OnOk, string_bytes};
+    ghost use Rattle.std.specs.Prelude.{◌≡◌, ◌↔◌, ◌++◌, length, nat_eq, IfOk, IsTrue, IsOk};
+    ghost use Rattle.std.specs.Prelude.{OnOk, string_bytes};
     ghost use Rattle.std.specs.Cow.{cow_str_bytes, IsBorrowedStr};
     ghost use Rattle.ansi_columns.specs.Slices.{AreWhole, joined_parts, is_middle_alone};
 
@@ -254,30 +251,15 @@ impl<'t> Parts<'t> {
         if self.is_middle_alone() {
             return Ok(CowStr::Borrowed(self.text));
         }
-        let mut out = String::with_capacity(alloc, self.room())?;
+        let links = self.opened.link.len() + self.closed.link_end().len();
+        let shown = self.text.len().saturating_sub(self.hidden);
+        let len = shown
+            .saturating_add(links)
+            .saturating_add(self.before)
+            .saturating_add(self.after);
+        let mut out = styles::with_room(alloc, &self.opened.style, len, &self.closed.style)?;
         self.push_to(&mut out)?;
         Ok(CowStr::Owned(out))
-    }
-
-    /// Enough bytes for the parts, or the greatest number if that isn't enough.
-    fn room(&self) -> usize
-        ensures { min (length (joined_parts self.now)) usize.MAX ≤ result }
-    {
-        let opening = if styles::has_any(&self.opened.style) {
-            LONGEST_START
-        } else {
-            0
-        };
-        let ending = if self.closed.ending().is_empty() {
-            0
-        } else {
-            LONGEST_ENDING
-        };
-        (opening + ending)
-            .saturating_add(self.opened.link.len())
-            .saturating_add(self.before)
-            .saturating_add(self.text.len())
-            .saturating_add(self.after)
     }
 
     /// Whether nothing is written before and after the text.
