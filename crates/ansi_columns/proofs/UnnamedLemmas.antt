@@ -67,7 +67,7 @@ breaks-unnamed before c d cs first second =
 -- the ranges of `is_ordinary`
 abbrev pub ordinary_ranges : List Range
 ordinary_ranges =
-    (0x20, 0x7E) ∷ (0xC0, 0x02FF) ∷ (0x0370, 0x0482) ∷ (0x048A, 0x058F) ∷ (0x05D0, 0x05EA) ∷ (0x0620, 0x064A) ∷ (0x0671, 0x06D3) ∷ (0x1E00, 0x1FFF) ∷ (0x2010, 0x2027) ∷ (0x2500, 0x25A9) ∷ (0x3001, 0x3029) ∷ (0x3041, 0x3096) ∷ (0x309B, 0x30FF) ∷ (0x3400, 0x9FFF) ∷ (0xFF01, 0xFF60) ∷ []
+    (0x20, 0x7E) ∷ (0xC0, 0x02FF) ∷ (0x0370, 0x0482) ∷ (0x048A, 0x058F) ∷ (0x05D0, 0x05EA) ∷ (0x0620, 0x064A) ∷ (0x0671, 0x06D3) ∷ (0x10A0, 0x10FF) ∷ (0x1200, 0x135C) ∷ (0x1360, 0x16FF) ∷ (0x1E00, 0x1FFF) ∷ (0x2010, 0x2027) ∷ (0x20A0, 0x20CF) ∷ (0x2200, 0x22FF) ∷ (0x2500, 0x25A9) ∷ (0x2800, 0x28FF) ∷ (0x3001, 0x3029) ∷ (0x3041, 0x3096) ∷ (0x309B, 0x30FF) ∷ (0x3400, 0x9FFF) ∷ (0xFF01, 0xFF9D) ∷ []
 
 abbrev is_unnamed : GraphemeClusterBreak → IndicConjunctBreak → Bool
 is_unnamed g i = (grapheme_cluster_break_number g == grapheme_cluster_break_number Other) && (indic_conjunct_break_number i == indic_conjunct_break_number InCb.None)
@@ -162,14 +162,19 @@ single-elsewhere c is outside =
 abbrev state_of : GraphemeClusterBreak → BreakState
 state_of v = record { last = v; is_linked = false; is_pictograph = false; is_joined = false; is_half_flag = false }
 
-single-joins_none : (v : GraphemeClusterBreak) → IsSingleValue v → (is_extend v ≡ false) × (is_zwj v ≡ false) × (is_regional v ≡ false)
-single-joins_none v is = elim is [
-  | inl e ↦ (ap is_extend e, ap is_zwj e, ap is_regional e)
+-- what holds of each such value holds of any
+single_value-each : (P : GraphemeClusterBreak → Type 0) → P Other → P Lv → P Lvt → (v : GraphemeClusterBreak) → IsSingleValue v → P v
+single_value-each P other lv lvt v is = elim is [
+  | inl e ↦ subst P (sym e) other
   | inr named ↦ elim named [
-    | inl e ↦ (ap is_extend e, ap is_zwj e, ap is_regional e)
-    | inr e ↦ (ap is_extend e, ap is_zwj e, ap is_regional e)
+    | inl e ↦ subst P (sym e) lv
+    | inr e ↦ subst P (sym e) lvt
   ]
 ]
+
+single-joins_none : (v : GraphemeClusterBreak) → IsSingleValue v → (is_extend v ≡ false) × (is_zwj v ≡ false) × (is_regional v ≡ false)
+single-joins_none =
+    single_value-each (λ v. (is_extend v ≡ false) × (is_zwj v ≡ false) × (is_regional v ≡ false)) (refl, refl, refl) (refl, refl, refl) (refl, refl, refl)
 
 -- after it, only its value is looked back at
 pub break_state-single : (c : ℕ) (before : List ℕ) (v : GraphemeClusterBreak) → IsSingle c → v ≡ grapheme_cluster_break c → state_of v ≡ break_state_of (c ∷ before)
@@ -182,34 +187,15 @@ break_state-single c before v single value =
     (ap₂ (λ p e. p || (e && s.is_pictograph)) (sym single.pictograph) (sym none.0))
     (ap (λ z. z && s.is_pictograph) (sym none.1)) (ap (λ r. r && not s.is_half_flag) (sym none.2))
 
+-- a cluster ends between two of these values
 single-pair : (v w : GraphemeClusterBreak) → IsSingleValue v → IsSingleValue w → unwrap_or (break_by_pair true v w) true ≡ true
 single-pair v w first second =
-    let pair : GraphemeClusterBreak → GraphemeClusterBreak → Bool = λ a b. unwrap_or (break_by_pair true a b) true in
-    elim first [
-      | inl e ↦ elim second [
-        | inl f ↦ ap₂ pair e f
-        | inr g ↦ elim g [
-          | inl f ↦ ap₂ pair e f
-          | inr f ↦ ap₂ pair e f
-        ]
-      ]
-      | inr d ↦ elim d [
-        | inl e ↦ elim second [
-          | inl f ↦ ap₂ pair e f
-          | inr g ↦ elim g [
-            | inl f ↦ ap₂ pair e f
-            | inr f ↦ ap₂ pair e f
-          ]
-        ]
-        | inr e ↦ elim second [
-          | inl f ↦ ap₂ pair e f
-          | inr g ↦ elim g [
-            | inl f ↦ ap₂ pair e f
-            | inr f ↦ ap₂ pair e f
-          ]
-        ]
-      ]
-    ]
+    let IsBreak : GraphemeClusterBreak → GraphemeClusterBreak → Type 0 = λ a b. unwrap_or (break_by_pair true a b) true ≡ true in
+    single_value-each (λ a. IsBreak a w)
+    (single_value-each (IsBreak Other) refl refl refl w second)
+    (single_value-each (IsBreak Lv) refl refl refl w second)
+    (single_value-each (IsBreak Lvt) refl refl refl w second)
+    v first
 
 -- a cluster ends between two of them
 pub breaks-single : (before : List ℕ) (c d : ℕ) (cs : List ℕ) → IsSingle c → IsSingle d → is_grapheme_break true (c ∷ before) (d ∷ cs) ≡ true

@@ -113,9 +113,11 @@ impl BreakState {
 }
 
 /// Whether the character is in a few common ranges: printable ASCII, Latin, Greek, Cyrillic,
-/// Armenian, Hebrew, Arabic, Chinese and Japanese. No rule on clusters names a character of them,
-/// and each is shown as it is. A new range goes into `ordinary_ranges` of `UnnamedLemmas` too, and
-/// its first bytes into `walks::may_begin_single`.
+/// Armenian, Hebrew, Arabic, Georgian, Ethiopic, Cherokee, Canadian syllabics, Chinese and Japanese,
+/// punctuation, currencies, mathematical operators, box drawing, Braille, and full-width and
+/// half-width forms. No rule on clusters names a character of them, and each is shown as it is. A
+/// new range goes into `ordinary_ranges` of `UnnamedLemmas` too, and its first bytes into
+/// `walks::may_begin_single`.
 #[inline(always)]
 fn is_ordinary(c: char) -> bool
     ensures unnamed { IsTrue result → IsUnnamed c }
@@ -125,9 +127,11 @@ fn is_ordinary(c: char) -> bool
         '\0'..='\u{1F}' => false,
         ' '..='~' | '\u{C0}'..='\u{2FF}' | '\u{370}'..='\u{482}' | '\u{48A}'..='\u{58F}' => true,
         '\u{5D0}'..='\u{5EA}' | '\u{620}'..='\u{64A}' | '\u{671}'..='\u{6D3}' => true,
-        '\u{1E00}'..='\u{1FFF}' | '\u{2010}'..='\u{2027}' | '\u{2500}'..='\u{25A9}' => true,
+        '\u{10A0}'..='\u{10FF}' | '\u{1200}'..='\u{135C}' | '\u{1360}'..='\u{16FF}' => true,
+        '\u{1E00}'..='\u{1FFF}' | '\u{2010}'..='\u{2027}' | '\u{20A0}'..='\u{20CF}' => true,
+        '\u{2200}'..='\u{22FF}' | '\u{2500}'..='\u{25A9}' | '\u{2800}'..='\u{28FF}' => true,
         '\u{3001}'..='\u{3029}' | '\u{3041}'..='\u{3096}' | '\u{309B}'..='\u{30FF}' => true,
-        '\u{3400}'..='\u{9FFF}' | '\u{FF01}'..='\u{FF60}' => true,
+        '\u{3400}'..='\u{9FFF}' | '\u{FF01}'..='\u{FF9D}' => true,
         _ => false,
     }
 }

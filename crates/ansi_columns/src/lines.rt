@@ -125,6 +125,7 @@ pub(crate) fn first_line(text: &str, start: Walk, width: usize) -> (Walk, Walk, 
         let is_at_next_run = here.run_end < after.run_end;
         here = after;
         if is_at_next_run {
+            // Its printable ASCII may be passed at once too.
             continue;
         }
         let Some((next, more)) = here.next_cluster(text, View::Given) else {

@@ -31,7 +31,7 @@ pub(crate) struct PlainFront {
 }
 
 /// The length of the longest text that is looked at. A search for the next sequence of a longer one
-/// could read far past the width, and a width would read much of it twice.
+/// could read far past the width, and `widths::width` would read much of it twice.
 pub(crate) const LONGEST: usize = 512;
 
 /// The front of a text of a cell, if that is printable ASCII and select graphic renditions alone.

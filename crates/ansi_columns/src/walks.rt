@@ -93,7 +93,7 @@ impl Walk {
         ensures { IfSome result (λ (walk, width). (view : View) → IsWalkIn view text.now self →
             IsPastCluster view text.now self walk width) }
     {
-        if !may_begin_single(*text.as_bytes().get(self.offset)?) {
+        if !may_begin_single(&text.as_bytes()[self.offset..self.run_end]) {
             return None;
         }
         let mut chars = text[self.offset..self.run_end].chars();
@@ -116,8 +116,8 @@ impl Walk {
     }
 
     /// The walk after characters that come next, each of which is a cluster by itself, and their
-    /// columns, at most `most`. They are printable ASCII, ordinary characters or Hangul syllables, or
-    /// none.
+    /// columns, at most `most`. They are printable ASCII, ordinary characters or Hangul syllables.
+    /// There may be none.
     #[inline(always)]
     pub(crate) fn past_singles(self, text: &str, most: usize) -> (Walk, usize)
         requires { IsAnyWalk text.now self }
@@ -126,10 +126,10 @@ impl Walk {
         ensures most { result.1 ≤ most }
     {
         let run = &text.as_bytes()[self.offset..self.run_end];
-        match (run.first(), run.get(1)) {
-            (Some(0x20..=0x7E), None | Some(0..=0x7F)) => self.past_ascii(text, most),
-            (Some(0x20..=0x7E), Some(next)) if !may_begin_single(*next) => (self, 0),
-            (Some(first), _) if may_begin_single(*first) => self.past_letters(text, most),
+        match run {
+            [0x20..=0x7E] | [0x20..=0x7E, 0..=0x7F, ..] => self.past_ascii(text, most),
+            [0x20..=0x7E, next @ ..] if !may_begin_single(next) => (self, 0),
+            _ if may_begin_single(run) => self.past_letters(text, most),
             _ => (self, 0),
         }
     }
@@ -224,8 +224,8 @@ impl Walk {
         (self.past_printable(text, len), len)
     }
 
-    /// The walk after the run, which is printable ASCII, if a byte of ASCII that is seen comes
-    /// next, or nothing.
+    /// The walk after the run, which is printable ASCII, if the text ends there or a byte of ASCII
+    /// that is seen comes next.
     fn past_run(self, text: &str) -> Option<Walk>
         requires walk { IsAnyWalk text.now self }
         requires some { self.offset < self.run_end }
@@ -367,11 +367,26 @@ impl Walk {
     }
 }
 
-/// Whether a character of which `is_single` is true may begin with this byte, perhaps among others.
-/// It saves decoding most other characters.
+/// Whether a character of which `is_single` is true may begin with the first bytes of these, perhaps
+/// among others. It saves decoding most other characters.
 #[inline(always)]
-fn may_begin_single(byte: u8) -> bool {
-    matches!(byte, 0x20..=0x7E | 0xC3..=0xCB | 0xCD..=0xDB | 0xE1..=0xED | 0xEF)
+fn may_begin_single(bytes: &[u8]) -> bool {
+    match bytes {
+        [
+            0x20..=0x7E | 0xC3..=0xCB | 0xCD..=0xDB | 0xE4..=0xE9 | 0xEB..=0xED,
+            ..
+        ] => true,
+        [0xE1, 0x82..=0x83 | 0x88..=0x9B | 0xB8..=0xBF, ..] => true,
+        [
+            0xE2,
+            0x80 | 0x82..=0x83 | 0x88..=0x8B | 0x94..=0x96 | 0xA0..=0xA3,
+            ..
+        ] => true,
+        [0xE3, 0x80..=0x83 | 0x90..=0xBF, ..] => true,
+        [0xEA, 0xB0..=0xBF, ..] => true,
+        [0xEF, 0xBC..=0xBE, ..] => true,
+        _ => false,
+    }
 }
 
 /// Whether a byte is a character of ASCII that is seen in any view.

@@ -196,7 +196,7 @@ fn push_indent<A: Allocator + Copy, B: Allocator>(
         return Ok(());
     }
     // As in `after_indent`, this closes its link and its style, and writes no blanks. An indent that
-    // has to be closed is made with the allocator of the lines.
+    // has to be changed or closed is made with the allocator of the lines.
     let shown = pad(alloc, indent, 0, Alignment::Left)?;
     out.push_str(shown.as_str())
 }

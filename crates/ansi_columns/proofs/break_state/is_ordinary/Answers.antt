@@ -32,6 +32,18 @@ pub returns-in-1488-to-1514-3-clause-unnamed : goal.returns-in-1488-to-1514-3-cl
 unfolding in_ranges
 returns-in-1488-to-1514-3-clause-unnamed c _ = IsUnnamed-ordinary c.args.c (grind (arith, nat_tests))
 
+pub returns-in-4256-to-4351-clause-unnamed : goal.returns-in-4256-to-4351-clause-unnamed
+unfolding in_ranges
+returns-in-4256-to-4351-clause-unnamed c _ = IsUnnamed-ordinary c.args.c (grind (arith, nat_tests))
+
+pub returns-in-4256-to-4351-2-clause-unnamed : goal.returns-in-4256-to-4351-2-clause-unnamed
+unfolding in_ranges
+returns-in-4256-to-4351-2-clause-unnamed c _ = IsUnnamed-ordinary c.args.c (grind (arith, nat_tests))
+
+pub returns-in-4256-to-4351-3-clause-unnamed : goal.returns-in-4256-to-4351-3-clause-unnamed
+unfolding in_ranges
+returns-in-4256-to-4351-3-clause-unnamed c _ = IsUnnamed-ordinary c.args.c (grind (arith, nat_tests))
+
 pub returns-in-7680-to-8191-clause-unnamed : goal.returns-in-7680-to-8191-clause-unnamed
 unfolding in_ranges
 returns-in-7680-to-8191-clause-unnamed c _ = IsUnnamed-ordinary c.args.c (grind (arith, nat_tests))
@@ -43,6 +55,18 @@ returns-in-7680-to-8191-2-clause-unnamed c _ = IsUnnamed-ordinary c.args.c (grin
 pub returns-in-7680-to-8191-3-clause-unnamed : goal.returns-in-7680-to-8191-3-clause-unnamed
 unfolding in_ranges
 returns-in-7680-to-8191-3-clause-unnamed c _ = IsUnnamed-ordinary c.args.c (grind (arith, nat_tests))
+
+pub returns-in-8704-to-8959-clause-unnamed : goal.returns-in-8704-to-8959-clause-unnamed
+unfolding in_ranges
+returns-in-8704-to-8959-clause-unnamed c _ = IsUnnamed-ordinary c.args.c (grind (arith, nat_tests))
+
+pub returns-in-8704-to-8959-2-clause-unnamed : goal.returns-in-8704-to-8959-2-clause-unnamed
+unfolding in_ranges
+returns-in-8704-to-8959-2-clause-unnamed c _ = IsUnnamed-ordinary c.args.c (grind (arith, nat_tests))
+
+pub returns-in-8704-to-8959-3-clause-unnamed : goal.returns-in-8704-to-8959-3-clause-unnamed
+unfolding in_ranges
+returns-in-8704-to-8959-3-clause-unnamed c _ = IsUnnamed-ordinary c.args.c (grind (arith, nat_tests))
 
 pub returns-in-12289-to-12329-clause-unnamed : goal.returns-in-12289-to-12329-clause-unnamed
 unfolding in_ranges
