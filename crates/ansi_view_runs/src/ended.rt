@@ -1,8 +1,7 @@
 //! What edits make of a line, and its end.
-ghost use Rattle.std.specs.Prelude.{◌≡◌, ◌++◌, IfOk, OnOk, string_bytes};
+ghost use Rattle.std.specs.Prelude.{◌≡◌, ◌++◌, IfOk, string_bytes};
 ghost use Rattle.std.specs.Cow.{cow_str_bytes};
 ghost use Rattle.std.specs.List.{join_by};
-ghost use Rattle.ansi_columns.specs.Wrapped.{wrapped};
 ghost use Rattle.ansi_lines_runs.specs.Runs.{words_of};
 ghost use Rattle.ansi_view_runs.specs.Edits.{Wrapped, changes_of, changed};
 ghost use Rattle.ansi_view_runs.specs.Views.{changed_line, line_break};
@@ -37,11 +36,36 @@ pub(crate) fn edit_further<A: Allocator + Copy>(
     ensures { IfOk result (λ s.
         string_bytes s ≡ changed_line (changes_of edits.now) (cow_str_bytes text.entry) end.now) }
 {
+    if edits.is_empty() {
+        return end_text(alloc, text, end);
+    }
     if let [ColumnEdit::Wrap(width)] = edits {
         return wrap_line(alloc, text.as_str(), *width, end);
     }
     let texts = edit_in_turn(alloc, edits, text.into_owned(alloc)?)?;
     join_lines(alloc, texts.as_slice(), end)
+}
+
+/// A text and its end.
+pub(crate) fn end_text<A: Allocator>(
+    alloc: A,
+    text: CowStr<'_, A>,
+    end: &str,
+) -> Result<String<A>, AllocError>
+    ensures { IfOk result (λ s. string_bytes s ≡ cow_str_bytes text.entry ++ end.now) }
+{
+    match text {
+        CowStr::Owned(mut text) => {
+            text.push_str(end)?;
+            Ok(text)
+        }
+        CowStr::Borrowed(text) => {
+            let mut ended = String::with_capacity(alloc, text.len() + end.len())?;
+            ended.push_str(text)?;
+            ended.push_str(end)?;
+            Ok(ended)
+        }
+    }
 }
 
 // The lines of a text wrapped at a width, the last of which has this end.

@@ -2,6 +2,7 @@
 ghost use Rattle.std.specs.Prelude.{◌≡◌, ◌≤◌, ◌⊎◌, ◌++◌, ◌==◌, [], false, true, codes, length, vec_len};
 ghost use Rattle.std.specs.Prelude.{IfErr, IfOk, IfSome, IsErrOf, IsSome, OnErr, OnOk, string_bytes};
 ghost use Rattle.std.specs.Prelude.{if◌then◌else◌, is_err, ◌||◌};
+ghost use Rattle.std.specs.Cow.{cow_str_bytes};
 ghost use Rattle.std.specs.Io.KnownBytes.{append_known};
 ghost use Rattle.ansi_io.specs.Devices.{count_after, was_closed};
 ghost use Rattle.ansi_lines_runs.specs.Runs.{words_of};
@@ -17,15 +18,16 @@ ghost use Rattle.ansi_view_runs.specs.Views.{changed_line, decoded, opening_afte
 ghost use Rattle.ansi_view_runs.specs.Words.{bad_word, message_of_word, view_asked};
 
 use crate::edits::{ColumnEdit, edit_up_to_wrap};
-use crate::ended::edit_further;
+use crate::ended::{edit_further, end_text};
 use crate::lines::{Line, split_first};
 use crate::stop::{OUT_OF_MEMORY, Stop, write_message};
-use crate::view::{Job, as_decoded, decode, stays, view_decoded};
+use crate::view::{Job, as_decoded, decode, edits_nothing, stays, view_decoded};
 use crate::words::parse;
 use ansi_io::devices::{ReadFault, Sink, Source, WriteFault};
 use ansi_safe::policy::{Links, Policy, Rest};
 use ansi_safe::safe::sanitize;
 use std::alloc::{AllocError, Allocator};
+use std::borrow::CowStr;
 
 // What follows a bad word.
 const WHERE_WORDS_ARE: &str = ": `ansi_view --help` lists the words\n";
@@ -42,12 +44,17 @@ pub struct Held<A: Allocator> {
     pub rest: Vec<u8, A>,
 }
 
-// Writes what a line becomes. `opening` is what is open before the line, and then after it.
+// Writes what a line becomes. `opening` is what is open before the line, and then after it. `read` is
+// the line with its end, as it was read, which saves copies; no clause depends on it.
+//
+// A line that stays as it is, without edits, is written without its end first. Any other line is
+// written at once.
 fn write_line<A: Allocator + Copy, W: Sink>(
     alloc: A,
     job: &Job<'_, A>,
     opening: &mut String<A>,
     line: &Line<'_>,
+    read: &[u8],
     output: &mut W,
 ) -> Result<(), Stop>
     ensures taken { OnOk result (W.taken output.new ≡ append_known (W.taken output.old)
@@ -60,53 +67,65 @@ fn write_line<A: Allocator + Copy, W: Sink>(
     ensures stopped { IfErr result (StopsWriting (W.failed output.old) (W.failed output.new)
         (W.closed output.old) (W.closed output.new) (W.taken output.new ≡ W.taken output.old)) }
 {
-    if let Some(text) = as_decoded(job.view, line.text) {
-        return write_text(alloc, job, opening, line, text, output);
+    let Some(text) = as_decoded(job.view, line.text) else {
+        let text = decode(alloc, job.view, line.text)?;
+        return write_text(alloc, job, opening, line, text, read, output);
+    };
+    if !edits_nothing(job) || !opening.is_empty() {
+        let text = CowStr::Borrowed(text);
+        return write_text(alloc, job, opening, line, text, read, output);
     }
-    let text = decode(alloc, job.view, line.text)?;
-    write_text(alloc, job, opening, line, text.as_str(), output)
-}
-
-// Like `write_line`, of a line whose bytes are decoded already.
-#[inline(always)]
-fn write_text<A: Allocator + Copy, W: Sink>(
-    alloc: A,
-    job: &Job<'_, A>,
-    opening: &mut String<A>,
-    line: &Line<'_>,
-    text: &str,
-    output: &mut W,
-) -> Result<(), Stop>
-    requires { text.now ≡ decoded job.now.view line.now.text.now }
-    ensures taken { OnOk result (W.taken output.new ≡ append_known (W.taken output.old)
-        (viewed (work_of job.now) (string_bytes opening.old) (line_of line.now))) }
-    ensures opening { OnOk result (string_bytes opening.new
-        ≡ opening_after job.now.view (string_bytes opening.old) (line_of line.now)) }
-    ensures flushes { W.flushes output.new ≡ W.flushes output.old }
-    ensures flags { OnOk result (KeepsFlags (W.failed output.old) (W.failed output.new)
-        (W.closed output.old) (W.closed output.new)) }
-    ensures stopped { IfErr result (StopsWriting (W.failed output.old) (W.failed output.new)
-        (W.closed output.old) (W.closed output.new) (W.taken output.new ≡ W.taken output.old)) }
-{
     if stays(job.view, opening.as_str(), line, text) {
-        return write_edited(alloc, job.edits.as_slice(), text, line.end, output);
+        write_ended(text, line.end, output)?;
+        return Ok(());
     }
     let viewed = view_decoded(alloc, job, opening, line, text)?;
     output.write(viewed.as_bytes())?;
     Ok(())
 }
 
-// Writes what edits make of a text in turn, as lines, the last of which has this end.
+// Like `write_line`, of a line whose bytes are decoded already, and always at once.
+fn write_text<A: Allocator + Copy, W: Sink>(
+    alloc: A,
+    job: &Job<'_, A>,
+    opening: &mut String<A>,
+    line: &Line<'_>,
+    text: CowStr<'_, A>,
+    read: &[u8],
+    output: &mut W,
+) -> Result<(), Stop>
+    requires { cow_str_bytes text ≡ decoded job.now.view line.now.text.now }
+    ensures taken { OnOk result (W.taken output.new ≡ append_known (W.taken output.old)
+        (viewed (work_of job.now) (string_bytes opening.old) (line_of line.now))) }
+    ensures opening { OnOk result (string_bytes opening.new
+        ≡ opening_after job.now.view (string_bytes opening.old) (line_of line.now)) }
+    ensures flushes { W.flushes output.new ≡ W.flushes output.old }
+    ensures flags { OnOk result (KeepsFlags (W.failed output.old) (W.failed output.new)
+        (W.closed output.old) (W.closed output.new)) }
+    ensures stopped { IfErr result (StopsWriting (W.failed output.old) (W.failed output.new)
+        (W.closed output.old) (W.closed output.new) (W.taken output.new ≡ W.taken output.old)) }
+{
+    if stays(job.view, opening.as_str(), line, text.as_str()) {
+        return write_edited(alloc, job.edits.as_slice(), text, line.end, read, output);
+    }
+    let viewed = view_decoded(alloc, job, opening, line, text.as_str())?;
+    output.write(viewed.as_bytes())?;
+    Ok(())
+}
+
+// Writes what edits make of a text in turn, as lines, the last of which has this end. It makes no
+// copy if that is `read`.
 #[inline(always)]
 fn write_edited<A: Allocator + Copy, W: Sink>(
     alloc: A,
     edits: &[ColumnEdit<'_>],
-    text: &str,
+    text: CowStr<'_, A>,
     end: &str,
+    read: &[u8],
     output: &mut W,
 ) -> Result<(), Stop>
     ensures taken { OnOk result (W.taken output.new ≡ append_known (W.taken output.old)
-        (changed_line (changes_of edits.now) text.now end.now)) }
+        (changed_line (changes_of edits.now) (cow_str_bytes text.entry) end.now)) }
     ensures flushes { W.flushes output.new ≡ W.flushes output.old }
     ensures flags { OnOk result (KeepsFlags (W.failed output.old) (W.failed output.new)
         (W.closed output.old) (W.closed output.new)) }
@@ -114,20 +133,55 @@ fn write_edited<A: Allocator + Copy, W: Sink>(
         (W.closed output.old) (W.closed output.new) (W.taken output.new ≡ W.taken output.old)) }
 {
     if edits.is_empty() {
-        write_ended(text, end, output)?;
-        return Ok(());
+        return write_at_once(alloc, text, end, read, output);
     }
-    let (edited, left) = edit_up_to_wrap(alloc, edits, text)?;
+    let (edited, left) = edit_up_to_wrap(alloc, edits, text.as_str())?;
     if left.is_empty() {
-        write_ended(edited.as_str(), end, output)?;
-        return Ok(());
+        return write_at_once(alloc, edited, end, read, output);
     }
     let lines = edit_further(alloc, left, edited, end)?;
     output.write(lines.as_bytes())?;
     Ok(())
 }
 
-// Writes a text and its end.
+// Writes a text and its end in one write. It makes no copy if they are `read`.
+#[inline(always)]
+fn write_at_once<A: Allocator, W: Sink>(
+    alloc: A,
+    text: CowStr<'_, A>,
+    end: &str,
+    read: &[u8],
+    output: &mut W,
+) -> Result<(), Stop>
+    ensures taken { OnOk result (W.taken output.new ≡ append_known (W.taken output.old)
+        (cow_str_bytes text.entry ++ end.now)) }
+    ensures flushes { W.flushes output.new ≡ W.flushes output.old }
+    ensures flags { OnOk result (KeepsFlags (W.failed output.old) (W.failed output.new)
+        (W.closed output.old) (W.closed output.new)) }
+    ensures stopped { IfErr result (StopsWriting (W.failed output.old) (W.failed output.new)
+        (W.closed output.old) (W.closed output.new) (W.taken output.new ≡ W.taken output.old)) }
+{
+    if are_text_and_end(read, text.as_str(), end) {
+        output.write(read)?;
+        return Ok(());
+    }
+    let line = end_text(alloc, text, end)?;
+    output.write(line.as_bytes())?;
+    Ok(())
+}
+
+// Whether these bytes are a text and its end.
+#[inline(always)]
+fn are_text_and_end(bytes: &[u8], text: &str, end: &str) -> bool
+    ensures { result ≡ true → bytes.now ≡ text.now ++ end.now }
+{
+    match bytes.strip_prefix(text.as_bytes()) {
+        Some(rest) => rest == end.as_bytes(),
+        None => false,
+    }
+}
+
+// Writes a text, and then its end.
 #[inline(always)]
 fn write_ended<W: Sink>(text: &str, end: &str, output: &mut W) -> Result<(), WriteFault>
     ensures taken { OnOk result
@@ -163,7 +217,8 @@ fn write_lines<'t, A: Allocator + Copy, W: Sink>(
 {
     let mut rest = bytes;
     while let Some((line, after)) = split_first(rest) {
-        write_line(alloc, job, opening, &line, output)?;
+        let read = &rest[..rest.len() - after.len()];
+        write_line(alloc, job, opening, &line, read, output)?;
         rest = after;
     }
     Ok(rest)
@@ -226,13 +281,8 @@ fn write_last<A: Allocator + Copy, W: Sink>(
 {
     let text = held.rest.as_slice();
     if !text.is_empty() {
-        write_line(
-            alloc,
-            job,
-            &mut held.opening,
-            &Line { text, end: "" },
-            output,
-        )?;
+        let line = Line { text, end: "" };
+        write_line(alloc, job, &mut held.opening, &line, text, output)?;
     }
     output.flush()?;
     Ok(())

@@ -1,7 +1,6 @@
 //! What a line becomes.
 ghost use Rattle.std.specs.Prelude.{◌≡◌, ◌==◌, ◌++◌, [], IfOk, IfSome, IsTrue, OnOk, length, string_bytes};
-ghost use Rattle.std.specs.Prelude.{◌&&◌, false, true};
-ghost use Rattle.std.specs.Prelude.{if◌then◌else◌};
+ghost use Rattle.std.specs.Prelude.{◌&&◌, true, if◌then◌else◌};
 ghost use Rattle.std.specs.Cow.{cow_str_bytes};
 ghost use Rattle.ansi_items.specs.Plain.{plain};
 ghost use Rattle.ansi_style.specs.States.{rendition_of};
@@ -116,8 +115,8 @@ pub(crate) fn stays(view: View, opening: &str, line: &Line<'_>, text: &str) -> b
     line.text.is_empty() || (opening.is_empty() && is_safe_and_closed(text, view.policy.links))
 }
 
-// Whether a job has no edits.
-fn edits_nothing<A: Allocator>(job: &Job<'_, A>) -> bool
+/// Whether a job has no edits.
+pub(crate) fn edits_nothing<A: Allocator>(job: &Job<'_, A>) -> bool
     ensures { result ≡ true → (work_of job.now).changes ≡ [] }
 {
     job.edits.is_empty()
@@ -226,7 +225,8 @@ fn clean<A: Allocator>(alloc: A, policy: Policy, text: &str) -> Result<String<A>
 }
 
 /// The text of bytes, if decoding leaves these bytes: they are UTF-8, and the view isn't plain.
-/// `None` says nothing. It is apart from `decode`, since most lines need no text that may be owned.
+/// `None` says nothing. `write_line` calls it before `decode`, which returns a `CowStr`, since most lines
+/// can be borrowed.
 pub(crate) fn as_decoded(view: View, bytes: &[u8]) -> Option<&str>
     ensures { IfSome result (λ text. text.now ≡ decoded view bytes.now) }
 {

@@ -1,15 +1,19 @@
 //! Runs of `ansi_view` whose devices fail. No clause says how much was read before a failing read.
-use super::{FakeDevices, Plan, Ran, at_call, expect, expect_end};
+use super::{FakeDevices, Plan, Ran, at_call, expect, expect_end, owned};
 use ansi_io::fake_device::Outcome;
 use ansi_view_runs::runs::run;
 use std::alloc::{AllocError, Global};
 
 // A run without words.
 fn view_with(alloc: Global, bytes: &[u8], plan: Plan) -> Result<Ran, AllocError> {
+    view_by(alloc, &[], bytes, plan)
+}
+
+fn view_by(alloc: Global, words: &[String], bytes: &[u8], plan: Plan) -> Result<Ran, AllocError> {
     let mut devices = FakeDevices::new(alloc, bytes, plan)?;
     let status = run(
         alloc,
-        &[],
+        words,
         &mut devices.input,
         &mut devices.output,
         &mut devices.faults,
@@ -37,5 +41,18 @@ fn a_closed_output_is_no_fault(rt: HostRuntime) -> Result<(), AllocError> {
     let name = "a write that finds the output closed";
     expect_end(&rt, &ran, 0, "a\n", "", name);
     expect(&rt, ran.output_left == 0, "the calls", name);
+    Ok(())
+}
+
+#[test]
+fn a_line_that_is_stripped_or_edited_is_written_at_once(rt: HostRuntime) -> Result<(), AllocError> {
+    for word in ["plain", "truncate:5", "pad:1", "wrap:5"] {
+        let words = owned(rt.alloc(), &[word])?;
+        let mut plan = Plan::new(rt.alloc());
+        plan.output = at_call(rt.alloc(), 1, Outcome::Failed)?;
+        let ran = view_by(rt.alloc(), words.as_slice(), b"a\nb\n", plan)?;
+        expect_end(&rt, &ran, 4, "a\n", "write failed: other error\n", word);
+        expect(&rt, ran.output_left == 0, "the calls", word);
+    }
     Ok(())
 }

@@ -4,9 +4,8 @@ use Rattle.std.specs.Str.{IsUtf8}
 use Rattle.std.proofs.lemmas.Bool.{eqb-true}
 use Rattle.std.proofs.lemmas.List.{nil_from_length}
 use Rattle.std.proofs.lemmas.Str.{IsUtf8-append}
-use Rattle.ansi_safe.specs.Links.{IsClosed, ending}
+use Rattle.ansi_safe.specs.Links.{IsClosed}
 use Rattle.ansi_safe.specs.Safe.{is_safe}
-use Rattle.ansi_safe.specs.Sanitized.{sanitized}
 use Rattle.ansi_safe.proofs.MadeLemmas.{cleaned-safe, sanitized-safe}
 use Rattle.ansi_safe.proofs.SafeLemmas.{sanitized-is_safe, sanitized-is_closed}
 use Rattle.ansi_view_runs.proofs.view.make_safe.Goals as goal

@@ -1,0 +1,17 @@
+use Rattle.std.proofs.Common.{◌≡◌, ◌++◌, refl, sym, ◌∙◌, ap, arith, string_bytes}
+use Rattle.ansi_view_runs.specs.Jobs.{work_of}
+use Rattle.ansi_view_runs.specs.LineViews.{line_of}
+use Rattle.ansi_view_runs.specs.Views.{shown, viewed}
+use Rattle.ansi_view_runs.proofs.StayLemmas.{viewed-unchanged}
+use Rattle.ansi_view_runs.proofs.runs.write_line.Goals as goal
+
+-- a line that stays as it is, without edits
+pub returns-then-stays-clause-taken : goal.returns-then-stays-clause-taken
+returns-then-stays-clause-taken g c =
+    let work = work_of c.args.job.now in
+    let opening = string_bytes c.args.opening.now in
+    let line = line_of c.args.line.now in
+    let stays : shown work.view opening line ≡ c.in-Some.text.now = ap (λ o. shown work.view o line) (sym c.as_str.ensures.value) ∙ c.if-stays.ensures.bytes refl in
+    let becomes : c.in-Some.text.now ++ line.end ≡ viewed work opening line
+    = ap (λ t. t ++ line.end) (sym stays) ∙ sym (viewed-unchanged work opening line (c.edits_nothing.ensures (grind (arith, c.if-not-edits_nothing.false)))) in
+    rw becomes at c.in_ok-write_ended.ensures.taken
