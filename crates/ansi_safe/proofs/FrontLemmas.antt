@@ -1,5 +1,5 @@
 -- The front of a list of bytes up to one that isn't in a set.
-use Rattle.std.proofs.Common.{◌≡◌, ℕ, ◌+◌, ◌-◌, ◌<◌, ◌≤◌, ◌^◌, ◌%◌, Bool, true, false, List, [], ◌∷◌, take, drop, length, get_or, map, cond, sym, ◌∙◌, ap, ap₂, arith, not, ◌||◌, ◌&&◌, ◌==◌, nat_le, min, zero, suc, refl, w8, Fits}
+use Rattle.std.proofs.Common.{◌≡◌, ℕ, ◌+◌, ◌<◌, ◌≤◌, ◌^◌, ◌%◌, Bool, true, false, List, [], ◌∷◌, take, drop, length, get_or, map, cond, sym, ◌∙◌, ap, ap₂, arith, not, ◌||◌, ◌&&◌, ◌==◌, nat_le, min, zero, suc, refl, w8, Fits}
 use Rattle.std.proofs.Math.Nat.{min-zero, zero-min}
 use Rattle.std.specs.List.{All, list_all, prefix_len}
 use Rattle.std.proofs.lemmas.List.Elements.{All-nil, All-cons}
@@ -64,11 +64,6 @@ prefix_len-take p (suc n) (x ∷ xs) = by (p x) (prefix_len-take p n xs)
 known-on : (p : ℕ → Bool) (n : ℕ) (xs : List ℕ) → n ≤ prefix_len p xs → n + prefix_len p (drop n xs) ≡ prefix_len p xs
 known-on p n xs known = goes_on p n xs (omega (arith, known, prefix_len-le-length p xs)) (omega (arith, prefix_len-take p n xs, known))
 
--- all bytes before these are in the set
-pub record IsInSoFar (p : ℕ → Bool) (t rest : List ℕ) : Type 0 where
-  pub within : length rest ≤ length t
-  pub so_far : prefix_len p t ≡ length t - length rest + prefix_len p rest
-
 -- a block of n elements, before which all are in the front: the front ends in the block
 pub ends-in_block : (p : ℕ → Bool) (n : ℕ) (t : List ℕ) (start len : ℕ) → start + n ≤ length t → start ≤ prefix_len p t → len ≡ prefix_len p (take n (drop start t)) → len < n → start + len ≡ prefix_len p t
 ends-in_block p n t start len room known is short =
@@ -78,16 +73,6 @@ ends-in_block p n t start len room known is short =
 pub has-block : (p : ℕ → Bool) (n : ℕ) (t : List ℕ) (start len : ℕ) → start + n ≤ length t → start ≤ prefix_len p t → len ≡ prefix_len p (take n (drop start t)) → n ≤ len → start + n ≤ prefix_len p t
 has-block p n t start len room known is all =
     omega (arith, is, known-on p start t known, prefix_len-take p n (drop start t))
-
--- a block of n bytes that are all in the set
-pub after-whole_block : (p : ℕ → Bool) (n : ℕ) (t rest next : List ℕ) → IsInSoFar p t rest → n ≤ length rest → prefix_len p (take n rest) ≡ n → next ≡ drop n rest → IsInSoFar p t next
-after-whole_block p n t rest next so_far room all next_is =
-    let size : length next ≡ length rest - n = ap length next_is ∙ length-drop n rest in
-    let on = goes_on p n rest room all in
-    record {
-      within = omega (arith, size, so_far.within);
-      so_far = omega (arith, size, so_far.within, so_far.so_far, on, ap (prefix_len p) next_is);
-    }
 
 -- The front of a block, by the lanes of its bytes: the highest bit of a lane is set if its byte isn't in the set.
 

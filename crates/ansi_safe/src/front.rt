@@ -41,20 +41,24 @@ fn ordinary_len(bytes: &[u8], white: bool) -> usize
 }
 
 /// How many bytes of ordinary characters, TAB and LF are at the front. Lines of printable ASCII are
-/// read 64 bytes at a time.
+/// read 64 bytes at a time, after a first block of 16: another character often comes soon.
 #[inline(always)]
 fn ordinary_len_of_lines(bytes: &[u8]) -> usize
     ensures { result ≡ prefix_len (is_ordinary_byte true) bytes.now }
 {
-    let mut rest = bytes;
-    while 64 <= rest.len() && are_lines(rest) {
-        rest = &rest[64..];
+    let set = ByteSet::Ordinary { white: true };
+    if bytes.len() < 16 {
+        return front_len_by_byte(bytes, set);
     }
-    front_len_from(
-        bytes,
-        bytes.len() - rest.len(),
-        ByteSet::Ordinary { white: true },
-    )
+    let front = front_len_of_16(bytes, set);
+    if front < 16 {
+        return front;
+    }
+    let mut known = 16;
+    while 64 <= bytes.len() - known && are_lines(&bytes[known..]) {
+        known += 64;
+    }
+    front_len_from(bytes, known, set)
 }
 
 /// Whether the first 64 bytes are printable ASCII and LF.
@@ -126,9 +130,9 @@ fn is_ordinary_byte(b: u8, white: bool) -> bool
     ensures { result ≡ is_ordinary_byte white b }
 {
     match b {
-        b'\t' | b'\n' => white,
         0x20..=0x7E => true,
-        _ => b >= 0x80 && b != 0xC2 && b != 0xE2,
+        0x80.. => b != 0xC2 && b != 0xE2,
+        _ => white && matches!(b, b'\t' | b'\n'),
     }
 }
 

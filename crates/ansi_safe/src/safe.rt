@@ -13,7 +13,7 @@ ghost use Rattle.ansi_safe.specs.Safe.{is_safe};
 ghost use Rattle.ansi_safe.specs.declared.policy.Links.{Links};
 ghost use Rattle.ansi_safe.specs.Sanitized.{becomes, cleaned, growth, sanitized};
 
-use crate::allowed::{all_allowed, item_may_stay, may_stay};
+use crate::allowed::{item_may_stay, may_stay, rest_is_allowed};
 use crate::front::split_ordinary;
 use crate::links::{Ending, LONGEST_ENDING, Pen, link_after, pen_after, plain_pen};
 use crate::policy::{Links, Policy};
@@ -44,7 +44,7 @@ fn after_allowed(text: &str) -> &str
     ensures link { link_of (marks text.now) ≡ link_of (marks result.now) }
 {
     let (_, rest) = split_ordinary(text, true);
-    if !rest.starts_with('\x1b') && all_allowed(rest) {
+    if !rest.starts_with('\x1b') && rest_is_allowed(rest) {
         ""
     } else {
         rest

@@ -36,5 +36,5 @@ pub returns-else-ordinary-run : goal.returns-else-ordinary-run
 returns-else-ordinary-run c =
     let run = c.range-run.result.now in
     let len : c.min-ordinary.result ≡ prefix_len is_ordinary run = ordinary-len c.args.text.now run c.as_bytes.result.now c.args.start c.args.end c.front_len.result c.min-ordinary.result c.range-run.ensures.value (omega (arith, c.range-run.ensures.len)) c.as_bytes.ensures.value c.front_len.ensures c.min-ordinary.ensures in
-    c.all_allowed.ensures ∙ ap (λ u. all_allowed (chars u)) c.range_from.ensures.value ∙ ap (λ n. all_allowed (chars (drop n run))) len
+    c.rest_is_allowed.ensures ∙ ap (λ u. all_allowed (chars u)) c.range_from.ensures.value ∙ ap (λ n. all_allowed (chars (drop n run))) len
     ∙ sym (allowed_after_front run c.range-run.utf8) ∙ ap (λ u. all_allowed (chars u)) c.range-run.ensures.value

@@ -11,22 +11,22 @@ use Rattle.ansi_safe.proofs.safe.after_allowed.Goals as goal
 
 -- all characters are allowed
 
-pub returns-then-all_allowed-clause-safe : goal.returns-then-all_allowed-clause-safe
-returns-then-all_allowed-clause-safe c = λ links.
+pub returns-then-rest_is_allowed-clause-safe : goal.returns-then-rest_is_allowed-clause-safe
+returns-then-rest_is_allowed-clause-safe c = λ links.
     let split = c.split_ordinary.ensures in
-    let all : all_allowed (chars c.args.text.now) ≡ true = stand_after_ordinary true (chars c.args.text.now) c.split_ordinary.result.0.now (chars c.split_ordinary.result.1.now) split.utf8 split.ordinary split.chars ∙ sym c.all_allowed.ensures ∙ c.if-all_allowed.true in
+    let all : all_allowed (chars c.args.text.now) ≡ true = stand_after_ordinary true (chars c.args.text.now) c.split_ordinary.result.0.now (chars c.split_ordinary.result.1.now) split.utf8 split.ordinary split.chars ∙ sym c.rest_is_allowed.ensures ∙ c.if-rest_is_allowed.true in
     allowed-is_safe links c.args.text.now c.utf8.text all
 
-pub returns-then-all_allowed-clause-style : goal.returns-then-all_allowed-clause-style
-returns-then-all_allowed-clause-style c =
+pub returns-then-rest_is_allowed-clause-style : goal.returns-then-rest_is_allowed-clause-style
+returns-then-rest_is_allowed-clause-style c =
     let split = c.split_ordinary.ensures in
-    let all : all_allowed (chars c.args.text.now) ≡ true = stand_after_ordinary true (chars c.args.text.now) c.split_ordinary.result.0.now (chars c.split_ordinary.result.1.now) split.utf8 split.ordinary split.chars ∙ sym c.all_allowed.ensures ∙ c.if-all_allowed.true in
+    let all : all_allowed (chars c.args.text.now) ≡ true = stand_after_ordinary true (chars c.args.text.now) c.split_ordinary.result.0.now (chars c.split_ordinary.result.1.now) split.utf8 split.ordinary split.chars ∙ sym c.rest_is_allowed.ensures ∙ c.if-rest_is_allowed.true in
     ap style_of (marks-bare c.args.text.now (allowed-bare c.args.text.now c.utf8.text all))
 
-pub returns-then-all_allowed-clause-link : goal.returns-then-all_allowed-clause-link
-returns-then-all_allowed-clause-link c =
+pub returns-then-rest_is_allowed-clause-link : goal.returns-then-rest_is_allowed-clause-link
+returns-then-rest_is_allowed-clause-link c =
     let split = c.split_ordinary.ensures in
-    let all : all_allowed (chars c.args.text.now) ≡ true = stand_after_ordinary true (chars c.args.text.now) c.split_ordinary.result.0.now (chars c.split_ordinary.result.1.now) split.utf8 split.ordinary split.chars ∙ sym c.all_allowed.ensures ∙ c.if-all_allowed.true in
+    let all : all_allowed (chars c.args.text.now) ≡ true = stand_after_ordinary true (chars c.args.text.now) c.split_ordinary.result.0.now (chars c.split_ordinary.result.1.now) split.utf8 split.ordinary split.chars ∙ sym c.rest_is_allowed.ensures ∙ c.if-rest_is_allowed.true in
     ap link_of (marks-bare c.args.text.now (allowed-bare c.args.text.now c.utf8.text all))
 
 -- the front is ordinary
