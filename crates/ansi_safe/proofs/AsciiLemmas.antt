@@ -1,8 +1,8 @@
 -- Words of bytes whose high bits aren't set.
-use Rattle.std.proofs.Common.{◌≡◌, ◌↔◌, IsTrue, Bool, true, refl, ℕ, zero, suc, ◌+◌, ◌-◌, ◌*◌, ◌<◌, ◌≤◌, List, length, take, drop, take-add, take-append-drop, length-take, get_or, bit_and, sym, ap, ◌∙◌, subst, inl, inr, arith, w8, w64, Fits}
+use Rattle.std.proofs.Common.{◌≡◌, ◌↔◌, IsTrue, Bool, true, refl, ℕ, zero, suc, ◌+◌, ◌-◌, ◌*◌, ◌<◌, ◌≤◌, List, ◌++◌, length, take, drop, take-add, take-append-drop, length-take, get_or, bit_and, sym, ap, ◌∙◌, subst, inl, inr, arith, w8, w64, Fits}
 use Rattle.std.specs.Int.{w128}
 use Rattle.std.specs.Str.{IsAscii, IsUtf8}
-use Rattle.simdutf8.proofs.StepsLemmas.{IsUtf8-after_ascii}
+use Rattle.simdutf8.proofs.StepsLemmas.{IsUtf8-after_ascii, IsUtf8-append_ascii}
 use Rattle.std.proofs.lemmas.Bool.{cases_lt}
 use Rattle.std.proofs.lemmas.List.{get_or-take, get_or_past, length-drop, drop-drop}
 use Rattle.std.proofs.lemmas.Simd.{get_or-chunk}
@@ -67,6 +67,14 @@ pub utf8_by_rest : (n : ℕ) (bs : List ℕ) (b : Bool) → IsAscii (take n bs) 
 utf8_by_rest n bs b front rest =
     let all = rw take-append-drop at (IsUtf8-after_ascii (take n bs) (drop n bs) front) in
     (λ is. all.1 (rest.0 is), λ utf8. rest.1 (all.0 utf8))
+
+-- so does what precedes ASCII: the last n of the bytes before `end` are left out
+pub utf8_before_ascii : (n end : ℕ) (bs : List ℕ) → n ≤ end → IsUtf8 (take end bs) ↔ IsUtf8 bs → IsAscii (take n (drop (end - n) bs)) → IsUtf8 (take (end - n) bs) ↔ IsUtf8 bs
+utf8_before_ascii n end bs room decides last =
+    let at : end - n + n ≡ end = omega arith in
+    let joined : take end bs ≡ take (end - n) bs ++ take n (drop (end - n) bs) = ap (λ k. take k bs) (sym at) ∙ take-add (end - n) n bs in
+    let front = rw (← joined) at (IsUtf8-append_ascii (take (end - n) bs) (take n (drop (end - n) bs)) last) in
+    (λ utf8. decides.0 (front.1 utf8), λ utf8. front.0 (decides.1 utf8))
 
 pub utf8_if_ascii : (bs : List ℕ) (b : Bool) → b ≡ true → IsAscii bs → IsTrue b ↔ IsUtf8 bs
 utf8_if_ascii bs b is ascii = (λ _. IsUtf8-from_ascii bs ascii, λ _. subst IsTrue (sym is) refl)

@@ -2,6 +2,7 @@
 ghost use Rattle.std.specs.Prelude.{◌≡◌, ◌<◌, ◌≤◌, ◌↔◌, length, take, MatchResult, IsTrue};
 ghost use Rattle.std.specs.Str.{IsAscii, IsUtf8};
 
+/// The error of `from_utf8`: the bytes aren't UTF-8. It doesn't say which byte isn't.
 pub use simdutf8::basic::Utf8Error;
 use std::str::from_utf8_unchecked;
 
@@ -99,8 +100,33 @@ fn is_rest_utf8(bytes: &[u8]) -> bool
     if bytes.len() < 64 {
         std::str::from_utf8(bytes).is_ok()
     } else {
-        simdutf8::is_utf8(bytes)
+        is_long_rest_utf8(bytes)
     }
+}
+
+/// The same of 64 bytes and more. ASCII at the end isn't tested again, and often few bytes are left.
+#[inline(never)]
+fn is_long_rest_utf8(bytes: &[u8]) -> bool
+    ensures { IsTrue result ↔ IsUtf8 bytes.now }
+{
+    let front = before_ascii_16(bytes);
+    if front.len() < 64 {
+        std::str::from_utf8(front).is_ok()
+    } else {
+        simdutf8::is_utf8(front)
+    }
+}
+
+/// The bytes without the ASCII at their end, of which 16 bytes at a time are left out.
+#[inline(always)]
+fn before_ascii_16(bytes: &[u8]) -> &[u8]
+    ensures { IsUtf8 result.now ↔ IsUtf8 bytes.now }
+{
+    let mut end = bytes.len();
+    while 16 <= end && begins_ascii_16(&bytes[end - 16..]) {
+        end -= 16;
+    }
+    &bytes[..end]
 }
 
 /// Whether there are 8 bytes at the front, and they are ASCII.
