@@ -55,7 +55,7 @@ fn is_utf8_by_1(bytes: &[u8]) -> bool
     let mut at = 0;
     while at < bytes.len() {
         if bytes[at] >= 0x80 {
-            return is_rest_utf8(&bytes[at..]);
+            return is_short_utf8(&bytes[at..]);
         }
         at += 1;
     }
@@ -70,9 +70,9 @@ fn is_utf8_by_8(bytes: &[u8]) -> bool
     ensures { IsTrue result ↔ IsUtf8 bytes.now }
 {
     if !begins_ascii_8(bytes) {
-        return is_rest_utf8(bytes);
+        return is_short_utf8(bytes);
     }
-    begins_ascii_8(&bytes[bytes.len() - 8..]) || is_rest_utf8(&bytes[8..])
+    begins_ascii_8(&bytes[bytes.len() - 8..]) || is_short_utf8(&bytes[8..])
 }
 
 /// The same of at least 16 bytes, 16 at a time. The last 16 may overlap those before.
@@ -88,33 +88,32 @@ fn is_utf8_by_16(bytes: &[u8]) -> bool
         }
         rest = &rest[16..];
     }
-    begins_ascii_16(&bytes[bytes.len() - 16..]) || is_rest_utf8(rest)
+    begins_ascii_16(&bytes[bytes.len() - 16..]) || is_short_utf8(rest)
 }
 
-/// Whether the bytes are UTF-8, for bytes that aren't all ASCII. `std` is quicker for short texts, and
-/// `simdutf8` for long ones.
-#[inline(never)]
-fn is_rest_utf8(bytes: &[u8]) -> bool
-    ensures { IsTrue result ↔ IsUtf8 bytes.now }
+/// Whether the bytes are UTF-8, for bytes that don't begin with 16 of ASCII. Of 64 and more, ASCII at
+/// the end isn't tested again, and often few bytes are left.
+#[inline(always)]
+fn is_rest_utf8(rest: &[u8]) -> bool
+    ensures { IsTrue result ↔ IsUtf8 rest.now }
 {
-    if bytes.len() < 64 {
-        std::str::from_utf8(bytes).is_ok()
-    } else {
-        is_long_rest_utf8(bytes)
+    if rest.len() < 64 {
+        return is_short_utf8(rest);
     }
-}
-
-/// The same of 64 bytes and more. ASCII at the end isn't tested again, and often few bytes are left.
-#[inline(never)]
-fn is_long_rest_utf8(bytes: &[u8]) -> bool
-    ensures { IsTrue result ↔ IsUtf8 bytes.now }
-{
-    let front = before_ascii_16(bytes);
+    let front = before_ascii_16(rest);
     if front.len() < 64 {
-        std::str::from_utf8(front).is_ok()
-    } else {
-        simdutf8::is_utf8(front)
+        return is_short_utf8(front);
     }
+    simdutf8::is_utf8(front)
+}
+
+/// Whether the bytes are UTF-8, for few bytes that aren't all ASCII. `std` is quicker for these than
+/// `simdutf8`.
+#[inline(never)]
+fn is_short_utf8(bytes: &[u8]) -> bool
+    ensures { IsTrue result ↔ IsUtf8 bytes.now }
+{
+    std::str::from_utf8(bytes).is_ok()
 }
 
 /// The bytes without the ASCII at their end, of which 16 bytes at a time are left out.

@@ -16,4 +16,4 @@ returns-then-begins_ascii_16 c =
     so_far-end 16 c.args.bytes.now c.loop-rest.rest.now _ c.loop-rest.invariant (omega arith) (omega arith) c.if-begins_ascii_16.true back
 
 pub returns-else-begins_ascii_16 : goal.returns-else-begins_ascii_16
-returns-else-begins_ascii_16 c = so_far-decides c.args.bytes.now c.loop-rest.rest.now _ c.loop-rest.invariant c.is_rest_utf8-else-begins_ascii_16.ensures
+returns-else-begins_ascii_16 c = so_far-decides c.args.bytes.now c.loop-rest.rest.now _ c.loop-rest.invariant c.is_short_utf8.ensures

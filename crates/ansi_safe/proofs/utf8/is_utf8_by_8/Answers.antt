@@ -10,4 +10,4 @@ returns-then-begins_ascii_8 c =
     utf8_if_ascii bs _ c.if-begins_ascii_8.true (ascii_covered 8 (length bs - 8) 8 bs (c.begins_ascii_8.ensures c.if-not-begins_ascii_8.false) back (omega arith) (omega arith))
 
 pub returns-else-begins_ascii_8 : goal.returns-else-begins_ascii_8
-returns-else-begins_ascii_8 c = utf8_by_rest 8 c.args.bytes.now _ (c.begins_ascii_8.ensures c.if-not-begins_ascii_8.false) (rw take_rest at c.is_rest_utf8-else-begins_ascii_8.ensures)
+returns-else-begins_ascii_8 c = utf8_by_rest 8 c.args.bytes.now _ (c.begins_ascii_8.ensures c.if-not-begins_ascii_8.false) (rw take_rest at c.is_short_utf8-else-begins_ascii_8.ensures)
