@@ -3,6 +3,9 @@ use Rattle.std.proofs.lemmas.List.{take_rest}
 use Rattle.ansi_safe.proofs.AsciiLemmas.{ascii_covered, utf8_by_rest, utf8_if_ascii}
 use Rattle.ansi_safe.proofs.utf8.is_utf8_by_8.Goals as goal
 
+pub returns-then-not-begins_ascii_8 : goal.returns-then-not-begins_ascii_8
+returns-then-not-begins_ascii_8 c = c.is_short_utf8.ensures
+
 pub returns-then-begins_ascii_8 : goal.returns-then-begins_ascii_8
 returns-then-begins_ascii_8 c =
     let bs = c.args.bytes.now in
