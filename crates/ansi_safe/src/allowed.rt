@@ -66,7 +66,9 @@ fn run_is_allowed(text: &str, start: usize, end: usize) -> bool
     ordinary == run.len() || rest_is_allowed(&run[ordinary..])
 }
 
-/// Whether each character of the run is allowed where it is.
+/// Whether each character of the run is allowed where it is. Out of line, so that `may_stay` is small
+/// enough for its callers.
+#[inline(never)]
 fn all_allowed(run: &str) -> bool
     ensures { result ≡ all_allowed (chars run.now) }
 {
@@ -75,6 +77,7 @@ fn all_allowed(run: &str) -> bool
 
 /// Whether each character of what is left of a run is allowed where it is. It is quicker than
 /// `all_allowed` if the first character isn't an ordinary one.
+#[inline(never)]
 pub(crate) fn rest_is_allowed(rest: &str) -> bool
     ensures { result ≡ all_allowed (chars rest.now) }
 {
@@ -109,7 +112,6 @@ pub(crate) fn split_first(text: &str) -> Option<(char, &str)>
 }
 
 /// Whether the character is allowed in a run, in front of this text.
-#[inline]
 pub(crate) fn is_allowed(c: char, after: &str) -> bool
     ensures { result ≡ is_allowed c (chars after.now) }
 {

@@ -113,7 +113,7 @@ fn is_placed(text: &str, place: Place) -> bool
     ensures { result ≡ is_placed place text.now }
 {
     let (_, rest) = split_ordinary(text, false);
-    if !rest.starts_with('\x1b') && rest_stays(rest, place) {
+    if !rest.starts_with('\x1b') && run_stays(rest, place) {
         return true;
     }
     items_stay(rest, place)
@@ -146,20 +146,12 @@ fn piece_stays(kind: Kind, piece: &str, place: Place) -> bool
 fn run_stays(run: &str, place: Place) -> bool
     ensures { result ≡ run_stays place (chars run.now) }
 {
-    rest_stays(after_ordinary(run), place)
-}
-
-/// Whether each character of what is left of a run is allowed where it is, and stays in a place. It
-/// is quicker than `run_stays` if the first character isn't an ordinary one.
-fn rest_stays(rest: &str, place: Place) -> bool
-    ensures { result ≡ run_stays place (chars rest.now) }
-{
-    let mut left = rest;
-    while let Some((c, after)) = split_first(left) {
+    let mut left = run;
+    while let Some((c, after)) = split_first(after_ordinary(left)) {
         if !(is_allowed(c, after) && stays_in(c, place)) {
             return false;
         }
-        left = after_ordinary(after);
+        left = after;
     }
     true
 }
