@@ -4,6 +4,7 @@ pub mod CodeLemmas
 pub mod FieldLemmas
 pub mod StateLemmas
 pub mod DecimalLemmas
+pub mod FrontLemmas
 pub mod WritingLemmas
 pub mod WrittenLemmas
 pub mod MarkLemmas

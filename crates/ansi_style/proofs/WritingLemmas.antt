@@ -7,8 +7,8 @@ use Rattle.std.specs.declared.fmt.Error.{Error}
 use Rattle.std.specs.declared.fmt.Formatter.{Formatter}
 use Rattle.ansi_style.specs.declared.styles.ByteCount.{ByteCount}
 use Rattle.std.proofs.lemmas.Grind.{put_two}
-use Rattle.ansi_style.specs.Writing.{color_sequence, color_sequence_if_set}
-use Rattle.ansi_style.proofs.Common.{◌≡◌, ◌∙◌, ℕ, List, ◌++◌, Option, Some, None, codes, refl, sym, ap, ap₂, subst, [], ◌∷◌, HasWritten, IsPlainFormatter, arith, length, length-append, ◌+◌, append_assoc, append-nil, decimal, flat_map-append, AnsiColor, Bit4, Bit8, Bit24, color_code, color_codes, written, written_all}
+use Rattle.ansi_style.specs.Writing.{WroteOnOk, color_sequence, color_sequence_if_set}
+use Rattle.ansi_style.proofs.Common.{◌≡◌, ◌∙◌, ℕ, List, ◌++◌, Option, Some, None, codes, refl, sym, ap, ap₂, subst, [], ◌∷◌, HasWritten, IsPlainFormatter, arith, length, length-append, ◌+◌, append_assoc, append-nil, decimal, flat_map-append, AnsiColor, Bit4, Bit8, Bit24, color_code, color_codes, written, written_all, true≢false}
 
 module _ {W : Type 0} (took : W → List ℕ → W → Type 0) where
   pub wrote_nothing : (w : W) → WritesInCalls took w [] w
@@ -16,6 +16,11 @@ module _ {W : Type 0} (took : W → List ℕ → W → Type 0) where
 
   pub wrote_once : (w : W) (bs : List ℕ) (v : W) → took w bs v → WritesInCalls took w bs v
   wrote_once w bs v call = record { parts = bs ∷ []; calls = (v, call, refl); whole = append-nil bs }
+
+  -- one write
+  pub wrote_if_took : (w : W) (bs : List ℕ) (v : W) (r : Result (Unit {0}) Error) → OnOk r (took w bs v) → WroteOnOk took w r bs v
+  wrote_if_took w bs v (Ok x) took = λ ok. wrote_once w bs v took
+  wrote_if_took w bs v (Err e) took = λ ok. absurd (true≢false (sym ok))
 
   calls_in_turn : (w : W) (xs : List (List ℕ)) (v : W) (ys : List (List ℕ)) (u : W) → FoldsTo took w xs v → FoldsTo took v ys u → FoldsTo took w (xs ++ ys) u
   calls_in_turn w [] v ys u first second = subst (λ x. FoldsTo took x ys u) (sym first) second
@@ -47,11 +52,6 @@ pub holds_if_written : {E : Type 0} (r : Result (Unit {0}) Error) (e : E) (q : R
 holds_if_written (Ok x) e q P is then_it_holds = subst (λ q. OnOk q P) (sym is) (then_it_holds refl)
 holds_if_written (Err x) e q P is then_it_holds = subst (λ q. OnOk q P) (sym is) tt
 
--- what follows from what holds if there is no error
-pub on_ok : {E : Type 0} (q : Result (Unit {0}) E) {P Q : Type 0} → OnOk q P → (P → Q) → OnOk q Q
-on_ok (Ok x) holds follows = follows holds
-on_ok (Err e) holds follows = tt
-
 -- a count after writes
 all_counted : (n : ByteCount) (xs : List (List ℕ)) (m : ByteCount) → FoldsTo (λ n bs m. m.0 ≡ n.0 + length bs) n xs m → m.0 ≡ n.0 + length (concat xs)
 all_counted n [] m calls = omega (arith, ap (λ (c : ByteCount). c.0) calls)
@@ -60,29 +60,18 @@ all_counted n (x ∷ xs) m calls = omega (arith, all_counted calls.0 xs m calls.
 pub counted : (n : ByteCount) (bs : List ℕ) (m : ByteCount) → WritesInCalls (λ (n : ByteCount) (bs : List ℕ) (m : ByteCount). m.0 ≡ n.0 + length bs) n bs m → m.0 ≡ n.0 + length bs
 counted n bs m writes = all_counted n writes.parts m writes.calls ∙ ap (λ w. n.0 + length w) writes.whole
 
--- what begins the sequence of a color beyond the sixteen, of which the code is `extended`
-abbrev by_number : List ℕ → List ℕ
-by_number extended = codes "\u{1b}[" ++ extended ++ codes ";5;"
-
-abbrev by_parts : List ℕ → List ℕ
-by_parts extended = codes "\u{1b}[" ++ extended ++ codes ";2;"
-
-color_sequence-is : (extended : List ℕ) (c : AnsiColor) → color_sequence (by_number extended) (by_parts extended) c ≡ written (color_code extended c)
+color_sequence-is : (extended : List ℕ) (c : AnsiColor) → color_sequence extended c ≡ written (color_code extended c)
 color_sequence-is extended (Bit4 n) = refl
 color_sequence-is extended (Bit8 n) = simp append_assoc
-color_sequence-is extended (Bit24 r g b) =
-    simp append_assoc (ap (λ t. codes "\u{1b}[" ++ t) (append_assoc extended (codes ";2;")
-    (decimal r ++ (codes ";" ++ (decimal g ++ (codes ";" ++ (decimal b ++ codes "m")))))))
+color_sequence-is extended (Bit24 r g b) = simp append_assoc
 
-color_sequence_if_set-is : (extended : List ℕ) (o : Option AnsiColor) → color_sequence_if_set (by_number extended) (by_parts extended) o ≡ written_all (color_codes extended o)
+color_sequence_if_set-is : (extended : List ℕ) (o : Option AnsiColor) → color_sequence_if_set extended o ≡ written_all (color_codes extended o)
 color_sequence_if_set-is extended None = refl
 color_sequence_if_set-is extended (Some c) = color_sequence-is extended c ∙ sym (append-nil (written (color_code extended c)))
 
 -- the sequences of the three colors
 pub color_sequences : (f b u : Option AnsiColor) →
-    color_sequence_if_set (codes "\u{1b}[38;5;") (codes "\u{1b}[38;2;") f
-    ++ (color_sequence_if_set (codes "\u{1b}[48;5;") (codes "\u{1b}[48;2;") b
-    ++ color_sequence_if_set (codes "\u{1b}[58;5;") (codes "\u{1b}[58;2;") u)
+    color_sequence_if_set (codes "38") f ++ (color_sequence_if_set (codes "48") b ++ color_sequence_if_set (codes "58") u)
     ≡ written_all (color_codes (codes "38") f ++ color_codes (codes "48") b ++ color_codes (codes "58") u)
 color_sequences f b u =
     let first = color_codes (codes "38") f in

@@ -3,6 +3,7 @@ pub(crate) mod attributes;
 mod compare;
 pub(crate) mod fields;
 pub mod rendition;
+pub(crate) mod sink;
 mod table;
 pub(crate) mod written;
 

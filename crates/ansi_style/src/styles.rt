@@ -1,7 +1,8 @@
 //! What the crates above do with a style. These are free functions, so that `Style` has only the
 //! public methods that callers of `ansi_str` need.
 ghost use Rattle.std.specs.Prelude.{◌≡◌, ◌||◌, ◌+◌, ◌++◌, [], length, IsTrue, IfOk, OnOk};
-ghost use Rattle.std.specs.Prelude.{IsOk, string_bytes, string_capacity};
+ghost use Rattle.std.specs.Prelude.{IsOk, OnErr, ⊤, take, string_bytes, string_capacity};
+ghost use Rattle.std.specs.Str.{IsCharBoundary};
 ghost use Rattle.ansi_items.specs.Sequences.{is_sgr};
 ghost use Rattle.ansi_style.specs.Rendition.{plain_style, has_known, has_any};
 ghost use Rattle.ansi_style.specs.Sgr.{apply, apply_parameters};
@@ -10,6 +11,7 @@ ghost use Rattle.ansi_style.specs.States.{rendition_of};
 
 use crate::state::attributes::Attributes;
 use crate::state::fields::{Fields, lone_code, parameters};
+use crate::state::sink::Sink;
 use crate::state::{Style, written};
 use bitflags::Flags;
 use std::alloc::{AllocError, Allocator};
@@ -75,12 +77,12 @@ pub fn has_close(style: &Style) -> bool
     style.has_known() | style.attributes.contains(Attributes::UNKNOWN)
 }
 
-/// Appends the start of the style. `Err` means out of memory; what was appended before the error
-/// stays.
+/// Appends the start of the style. `Err` means out of memory, and then nothing is appended.
 #[tactic(auto, using(crate::proofs::UnsetLemmas::unset_styles))]
 pub fn write_start<A: Allocator>(style: &Style, out: &mut String<A>) -> Result<(), AllocError>
-    ensures { OnOk result
+    ensures bytes { OnOk result
         (string_bytes out.new ≡ string_bytes out.old ++ start (rendition_of style.now)) }
+    ensures kept { OnErr result (string_bytes out.new ≡ string_bytes out.old) }
 {
     if !style.has_known() {
         return Ok(());
@@ -90,12 +92,12 @@ pub fn write_start<A: Allocator>(style: &Style, out: &mut String<A>) -> Result<(
     keep_if_written(out, len, written)
 }
 
-/// Appends the close of the style. `Err` means out of memory; what was appended before the error
-/// stays.
+/// Appends the close of the style. `Err` means out of memory, and then nothing is appended.
 #[tactic(auto, using(crate::proofs::UnsetLemmas::unset_styles), unfolding(crate::specs::States::rendition_of))]
 pub fn write_close<A: Allocator>(style: &Style, out: &mut String<A>) -> Result<(), AllocError>
-    ensures { OnOk result
+    ensures bytes { OnOk result
         (string_bytes out.new ≡ string_bytes out.old ++ close (rendition_of style.now)) }
+    ensures kept { OnErr result (string_bytes out.new ≡ string_bytes out.old) }
 {
     if !has_close(style) {
         return Ok(());
@@ -111,15 +113,14 @@ fn keep_if_written<A: Allocator>(
     len: usize,
     written: fmt::Result,
 ) -> Result<(), AllocError>
-    ensures { OnOk result (IsOk written × (out.new ≡ out.old)) }
+    requires { IsCharBoundary (string_bytes out.old) len }
+    ensures written { OnOk result (IsOk written × (out.new ≡ out.old)) }
+    ensures kept { OnErr result (string_bytes out.new ≡ take len (string_bytes out.old)) }
 {
     if written.is_ok() {
         return Ok(());
     }
-    // `len` is a boundary, and the test is for the proof
-    if out.is_char_boundary(len) {
-        out.truncate(len);
-    }
+    out.truncate(len);
     Err(AllocError)
 }
 
@@ -137,13 +138,29 @@ pub fn with_room<A: Allocator>(
         + length (close_if_any (rendition_of after.now))) }
 {
     let mut room = ByteCount(len);
-    if before.has_known() {
-        room.add_start(before)?;
-    }
+    room.add_start(before)?;
     if has_any(after) {
         room.add_close(after)?;
     }
     String::with_capacity(alloc, room.0)
+}
+
+/// The same with room for the close of any style, also of one in which an unknown code alone is
+/// open.
+pub fn with_room_to_close<A: Allocator>(
+    alloc: A,
+    before: &Style,
+    len: usize,
+    after: &Style,
+) -> Result<String<A>, AllocError>
+    ensures bytes { IfOk result (λ s. string_bytes s ≡ []) }
+    ensures room { IfOk result (λ s. string_capacity s
+        ≡ length (start (rendition_of before.now)) + len + length (close (rendition_of after.now))) }
+{
+    let mut count = ByteCount(len);
+    count.add_start(before)?;
+    count.add_close(after)?;
+    String::with_capacity(alloc, count.0)
 }
 
 /// A writer that only counts bytes. Its error means that no text can be that long.
@@ -152,27 +169,41 @@ struct ByteCount(usize);
 
 impl ByteCount {
     /// Adds the length of the start of a style.
+    #[tactic(auto, using(crate::proofs::UnsetLemmas::unset_styles))]
+    #[inline(always)]
     fn add_start(&mut self, style: &Style) -> Result<(), AllocError>
         ensures { OnOk result
             (self.new.0 ≡ self.old.0 + length (start (rendition_of style.now))) }
     {
+        if !style.has_known() {
+            return Ok(());
+        }
         written::write_start(self, style).or(Err(AllocError))
     }
 
     /// Adds the length of the close of a style.
+    #[tactic(auto, using(crate::proofs::UnsetLemmas::unset_styles), unfolding(crate::specs::States::rendition_of))]
+    #[inline(always)]
     fn add_close(&mut self, style: &Style) -> Result<(), AllocError>
         ensures { OnOk result
             (self.new.0 ≡ self.old.0 + length (close (rendition_of style.now))) }
     {
+        if !has_close(style) {
+            return Ok(());
+        }
         written::write_close(self, style).or(Err(AllocError))
     }
 }
 
-impl fmt::Write for ByteCount {
-    ghost write_str_gives = { λ old bytes new. new.0 ≡ old.0 + length bytes };
+impl Sink for ByteCount {
+    ghost took = { λ old bytes new. new.0 ≡ old.0 + length bytes };
 
-    fn write_str(&mut self, s: &str) -> fmt::Result {
-        self.0 = self.0.checked_add(s.len()).ok_or(fmt::Error)?;
+    ghost begins = { λ _ _. ⊤ };
+
+    const IN_PIECES: bool = false;
+
+    fn write(&mut self, piece: &str) -> fmt::Result {
+        self.0 = self.0.checked_add(piece.len()).ok_or(fmt::Error)?;
         Ok(())
     }
 }

@@ -109,9 +109,7 @@ pub(crate) fn lone_code(parameters: &[u8]) -> Option<u8>
     match parameters {
         [] => Some(0),
         [digit] if digit.is_ascii_digit() => Some(digit - b'0'),
-        [tens, digit] if tens.is_ascii_digit() && digit.is_ascii_digit() => {
-            Some((tens - b'0') * 10 + (digit - b'0'))
-        }
+        [tens, digit] => two_digits(*tens, *digit),
         [hundreds, tens, digit] => three_digits(*hundreds, *tens, *digit),
         _ => None,
     }
@@ -126,14 +124,27 @@ fn short_field(parameters: &[u8]) -> Option<(u8, &[u8])>
 {
     match parameters {
         [digit, b';', rest @ ..] if digit.is_ascii_digit() => Some((digit - b'0', rest)),
-        [tens, digit, b';', rest @ ..] if tens.is_ascii_digit() && digit.is_ascii_digit() => {
-            Some(((tens - b'0') * 10 + (digit - b'0'), rest))
-        }
+        [tens, digit, b';', rest @ ..] => Some((two_digits(*tens, *digit)?, rest)),
         [hundreds, tens, digit, b';', rest @ ..] => {
             Some((three_digits(*hundreds, *tens, *digit)?, rest))
         }
         _ => None,
     }
+}
+
+/// The number of two digits, or `None` if they aren't digits.
+#[inline(always)]
+fn two_digits(tens: u8, digit: u8) -> Option<u8>
+    ensures field { IfSome result (λ _. fields_of (tens ∷ digit ∷ [])
+        ≡ (tens ∷ digit ∷ []) ∷ []) }
+    ensures first { IfSome result (λ _. (rest : List ℕ) →
+        fields_of (tens ∷ digit ∷ byte ";" ∷ rest) ≡ (tens ∷ digit ∷ []) ∷ fields_of rest) }
+    ensures code { IfSome result (λ code. code_of (tens ∷ digit ∷ []) ≡ Some code) }
+{
+    if !tens.is_ascii_digit() || !digit.is_ascii_digit() {
+        return None;
+    }
+    Some((tens - b'0') * 10 + (digit - b'0'))
 }
 
 /// The number of three digits, or `None` if they aren't digits or it is more than 255.

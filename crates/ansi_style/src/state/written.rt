@@ -1,13 +1,15 @@
 //! The start and the close of a style, for printing. Each code has a sequence of its own.
-ghost use Rattle.std.specs.Prelude.{◌<◌, ◌++◌, ◌∷◌, [], Some, codes, decimal, flat_map};
+ghost use Rattle.std.specs.Prelude.{◌<◌, ◌++◌, ◌∷◌, [], Some, codes, decimal, flat_map, length};
 ghost use Rattle.std.specs.Prelude.{if◌then◌else◌, IsAscii};
-ghost use Rattle.ansi_style.specs.Writing.{WroteOnOk, color_sequence, color_sequence_if_set};
+ghost use Rattle.ansi_style.specs.Writing.{WroteOnOk, Keeps, color_front, color_sequence};
+ghost use Rattle.ansi_style.specs.Writing.{color_sequence_if_set};
 ghost use Rattle.ansi_style.specs.States.{has_one, rendition_of};
 ghost use Rattle.ansi_style.specs.Written.{written, written_all, color_codes};
 ghost use Rattle.ansi_style.specs.Written.{font_codes, start, close, close_if_any};
 
 use crate::state::Style;
 use crate::state::attributes::Attributes;
+use crate::state::sink::Sink;
 use crate::styles::has_any;
 use ansi_items::ESC;
 use ansi_items::ansitok::AnsiColor;
@@ -40,10 +42,6 @@ pub struct AnsiSequenceStart<'a>(pub(super) &'a Style);
 #[derive(Drop)]
 pub struct AnsiSequenceEnd<'a>(pub(super) &'a Style);
 
-/// Prints the close of any style, without a test whether there is something to reset.
-#[derive(Drop)]
-pub(crate) struct Close<'a>(pub(crate) &'a Style);
-
 impl<'a> Model for AnsiSequenceStart<'a> {
     ghost use Rattle.ansi_style.specs.Rendition.{Rendition};
     ghost use Rattle.ansi_style.specs.States.{rendition_of};
@@ -54,15 +52,6 @@ impl<'a> Model for AnsiSequenceStart<'a> {
 }
 
 impl<'a> Model for AnsiSequenceEnd<'a> {
-    ghost use Rattle.ansi_style.specs.Rendition.{Rendition};
-    ghost use Rattle.ansi_style.specs.States.{rendition_of};
-
-    ghost Value = { Rendition };
-
-    ghost view = { λ s. rendition_of s.0.now };
-}
-
-impl<'a> Model for Close<'a> {
     ghost use Rattle.ansi_style.specs.Rendition.{Rendition};
     ghost use Rattle.ansi_style.specs.States.{rendition_of};
 
@@ -88,23 +77,14 @@ impl fmt::Display for AnsiSequenceStart<'_> {
     }
 }
 
-impl fmt::Display for Close<'_> {
-    ghost output = { λ s. Some (close s) };
-
-    fn fmt<W: fmt::Write>(&self, f: &mut fmt::Formatter<W>) -> fmt::Result {
-        write_close(f, self.0)
-    }
-}
-
 impl fmt::Display for AnsiSequenceEnd<'_> {
     ghost output = { λ s. Some (close_if_any s) };
 
     fn fmt<W: fmt::Write>(&self, f: &mut fmt::Formatter<W>) -> fmt::Result {
-        let ends = has_any(self.0);
-        if ends {
-            Close(self.0).fmt(f)?;
+        if !has_any(self.0) {
+            return Ok(());
         }
-        Ok(())
+        write_close(f, self.0)
     }
 }
 
@@ -167,9 +147,10 @@ const CLOSE_ENDS: Rows = &[
 ];
 
 /// Writes the start of a style.
-pub(crate) fn write_start<W: fmt::Write>(out: &mut W, style: &Style) -> fmt::Result
-    ensures { WroteOnOk W.write_str_gives out.old result (start (rendition_of style.now))
+pub(crate) fn write_start<W: Sink>(out: &mut W, style: &Style) -> fmt::Result
+    ensures wrote { WroteOnOk W.took out.old result (start (rendition_of style.now))
         out.new }
+    ensures kept { Keeps W.begins out.old out.new }
 {
     let set = style.attributes;
     write_rows(
@@ -185,9 +166,10 @@ pub(crate) fn write_start<W: fmt::Write>(out: &mut W, style: &Style) -> fmt::Res
 }
 
 /// Writes the close of a style.
-pub(crate) fn write_close<W: fmt::Write>(out: &mut W, style: &Style) -> fmt::Result
-    ensures { WroteOnOk W.write_str_gives out.old result (close (rendition_of style.now))
+pub(crate) fn write_close<W: Sink>(out: &mut W, style: &Style) -> fmt::Result
+    ensures wrote { WroteOnOk W.took out.old result (close (rendition_of style.now))
         out.new }
+    ensures kept { Keeps W.begins out.old out.new }
 {
     let set = style.attributes;
     let is_unknown = set.contains(Attributes::UNKNOWN);
@@ -207,13 +189,10 @@ pub(crate) fn write_close<W: fmt::Write>(out: &mut W, style: &Style) -> fmt::Res
 }
 
 /// Writes the sequence of each row of which at least one attribute is in the set.
-fn write_rows<W: fmt::Write>(
-    out: &mut W,
-    set: Attributes,
-    rows: &[(Attributes, &str)],
-) -> fmt::Result
-    ensures { WroteOnOk W.write_str_gives out.old result
+fn write_rows<W: Sink>(out: &mut W, set: Attributes, rows: &[(Attributes, &str)]) -> fmt::Result
+    ensures wrote { WroteOnOk W.took out.old result
         (flat_map (λ row. if has_one set.0 row.0.0 then row.1.now else []) rows.now) out.new }
+    ensures kept { Keeps W.begins out.old out.new }
 {
     if set.is_empty() {
         return Ok(());
@@ -227,34 +206,33 @@ fn write_rows<W: fmt::Write>(
 /// Writes a sequence if the condition holds.
 #[tactic(auto, using(crate::proofs::WritingLemmas::wrote_nothing, crate::proofs::WritingLemmas::wrote_once))]
 #[inline(always)]
-fn write_when<W: fmt::Write>(out: &mut W, is_set: bool, sequence: &str) -> fmt::Result
-    ensures { WroteOnOk W.write_str_gives out.old result (if is_set then sequence.now else [])
+fn write_when<W: Sink>(out: &mut W, is_set: bool, sequence: &str) -> fmt::Result
+    ensures wrote { WroteOnOk W.took out.old result (if is_set then sequence.now else [])
         out.new }
+    ensures kept { Keeps W.begins out.old out.new }
 {
-    if is_set {
-        out.write_str(sequence)
-    } else {
-        Ok(())
-    }
+    if is_set { out.write(sequence) } else { Ok(()) }
 }
 
 /// Writes the codes of the colors that are set.
 #[tactic(auto, unfolding(crate::specs::States::rendition_of))]
-fn write_colors<W: fmt::Write>(out: &mut W, style: &Style) -> fmt::Result
-    ensures { WroteOnOk W.write_str_gives out.old result
+fn write_colors<W: Sink>(out: &mut W, style: &Style) -> fmt::Result
+    ensures wrote { WroteOnOk W.took out.old result
         (written_all (color_codes (codes "38") (rendition_of style.now).foreground
         ++ color_codes (codes "48") (rendition_of style.now).background
         ++ color_codes (codes "58") (rendition_of style.now).underline_color)) out.new }
+    ensures kept { Keeps W.begins out.old out.new }
 {
-    write_color(out, "\u{1b}[38;5;", "\u{1b}[38;2;", style.foreground)?;
-    write_color(out, "\u{1b}[48;5;", "\u{1b}[48;2;", style.background)?;
-    write_color(out, "\u{1b}[58;5;", "\u{1b}[58;2;", style.underline_color)
+    write_color(out, b'3', style.foreground)?;
+    write_color(out, b'4', style.background)?;
+    write_color(out, b'5', style.underline_color)
 }
 
 /// Writes the code of a font, if one is set.
-fn write_font<W: fmt::Write>(out: &mut W, font: Option<u8>) -> fmt::Result
-    ensures { WroteOnOk W.write_str_gives out.old result
+fn write_font<W: Sink>(out: &mut W, font: Option<u8>) -> fmt::Result
+    ensures wrote { WroteOnOk W.took out.old result
         (written_all (font_codes font)) out.new }
+    ensures kept { Keeps W.begins out.old out.new }
 {
     match font {
         None => Ok(()),
@@ -262,43 +240,37 @@ fn write_font<W: fmt::Write>(out: &mut W, font: Option<u8>) -> fmt::Result
     }
 }
 
-/// Writes the sequence of a color, if one is set. `by_number` and `by_parts` begin that of a color
-/// beyond the sixteen.
+/// Writes the sequence of a color, if one is set. The code 38, 48 or 58, of which `tens` is the
+/// first digit, begins that of a color beyond the sixteen.
 #[tactic(auto, using(crate::proofs::WritingLemmas::wrote_nothing, crate::proofs::WritingLemmas::wrote_once))]
 #[inline(always)]
-fn write_color<W: fmt::Write>(
-    out: &mut W,
-    by_number: &str,
-    by_parts: &str,
-    color: Option<AnsiColor>,
-) -> fmt::Result
-    ensures { WroteOnOk W.write_str_gives out.old result
-        (color_sequence_if_set by_number.now by_parts.now color) out.new }
+fn write_color<W: Sink>(out: &mut W, tens: u8, color: Option<AnsiColor>) -> fmt::Result
+    requires { tens < 128 }
+    ensures wrote { WroteOnOk W.took out.old result
+        (color_sequence_if_set (tens ∷ codes "8") color) out.new }
+    ensures kept { Keeps W.begins out.old out.new }
 {
     match color {
         None => Ok(()),
-        Some(color) => write_color_sequence(out, by_number, by_parts, color),
+        Some(color) => write_color_sequence(out, tens, color),
     }
 }
 
 /// Writes the sequence of a color.
-fn write_color_sequence<W: fmt::Write>(
-    out: &mut W,
-    by_number: &str,
-    by_parts: &str,
-    color: AnsiColor,
-) -> fmt::Result
-    ensures { WroteOnOk W.write_str_gives out.old result
-        (color_sequence by_number.now by_parts.now color) out.new }
+fn write_color_sequence<W: Sink>(out: &mut W, tens: u8, color: AnsiColor) -> fmt::Result
+    requires { tens < 128 }
+    ensures wrote { WroteOnOk W.took out.old result (color_sequence (tens ∷ codes "8") color)
+        out.new }
+    ensures kept { Keeps W.begins out.old out.new }
 {
     match color {
         AnsiColor::Bit4(n) => write_code(out, n),
         AnsiColor::Bit8(n) => {
-            out.write_str(by_number)?;
+            write_color_front(out, tens, b'5')?;
             write_number(out, n, b'm')
         }
         AnsiColor::Bit24 { r, g, b } => {
-            out.write_str(by_parts)?;
+            write_color_front(out, tens, b'2')?;
             write_number(out, r, b';')?;
             write_number(out, g, b';')?;
             write_number(out, b, b'm')
@@ -306,42 +278,77 @@ fn write_color_sequence<W: fmt::Write>(
     }
 }
 
+/// Writes what begins the sequence of a color beyond the sixteen.
+#[inline(always)]
+fn write_color_front<W: Sink>(out: &mut W, tens: u8, kind: u8) -> fmt::Result
+    requires tens { tens < 128 }
+    requires kind { kind < 128 }
+    ensures wrote { WroteOnOk W.took out.old result (color_front (tens ∷ codes "8") (kind ∷ []))
+        out.new }
+    ensures kept { Keeps W.begins out.old out.new }
+{
+    if W::IN_PIECES {
+        out.write("\u{1b}[")?;
+        write_ascii(out, &[tens, b'8'])?;
+        return write_ascii(out, &[b';', kind, b';']);
+    }
+    write_ascii(out, &[ESC, b'[', tens, b'8', b';', kind, b';'])
+}
+
 /// Writes the sequence of a code. Most codes of colors and fonts have two digits, and then it is
 /// written at once.
 #[inline(never)]
-fn write_code<W: fmt::Write>(out: &mut W, code: u8) -> fmt::Result
-    ensures { WroteOnOk W.write_str_gives out.old result (written (decimal code)) out.new }
+fn write_code<W: Sink>(out: &mut W, code: u8) -> fmt::Result
+    ensures wrote { WroteOnOk W.took out.old result (written (decimal code)) out.new }
+    ensures kept { Keeps W.begins out.old out.new }
 {
-    if 10 <= code && code < 100 {
+    if !W::IN_PIECES && 10 <= code && code < 100 {
         return write_ascii(out, &[ESC, b'[', b'0' + code / 10, b'0' + code % 10, b'm']);
     }
-    out.write_str("\u{1b}[")?;
+    out.write("\u{1b}[")?;
     write_number(out, code, b'm')
 }
 
 /// Writes a number in decimal, and an ASCII byte after it. A copy of a known length is quicker, so
 /// each number of digits has an array of its own.
-fn write_number<W: fmt::Write>(out: &mut W, number: u8, after: u8) -> fmt::Result
+fn write_number<W: Sink>(out: &mut W, number: u8, after: u8) -> fmt::Result
     requires { after < 128 }
-    ensures { WroteOnOk W.write_str_gives out.old result (decimal number ++ after ∷ [])
-        out.new }
+    ensures wrote { WroteOnOk W.took out.old result (decimal number ++ after ∷ []) out.new }
+    ensures kept { Keeps W.begins out.old out.new }
 {
     let ones = b'0' + number % 10;
     if number < 10 {
-        write_ascii(out, &[ones, after])
+        write_ended(out, &[ones, after])
     } else if number < 100 {
-        write_ascii(out, &[b'0' + number / 10, ones, after])
+        write_ended(out, &[b'0' + number / 10, ones, after])
     } else {
         let tens = number / 10 % 10;
-        write_ascii(out, &[b'0' + number / 100, b'0' + tens, ones, after])
+        write_ended(out, &[b'0' + number / 100, b'0' + tens, ones, after])
     }
+}
+
+/// Writes ASCII bytes, of which the last is a piece of its own.
+#[inline(always)]
+fn write_ended<W: Sink>(out: &mut W, bytes: &[u8]) -> fmt::Result
+    requires ascii { IsAscii bytes.now }
+    requires some { 0 < length bytes.now }
+    ensures wrote { WroteOnOk W.took out.old result bytes.now out.new }
+    ensures kept { Keeps W.begins out.old out.new }
+{
+    if W::IN_PIECES {
+        let (digits, last) = bytes.split_at(bytes.len() - 1);
+        write_ascii(out, digits)?;
+        return write_ascii(out, last);
+    }
+    write_ascii(out, bytes)
 }
 
 /// Writes ASCII bytes.
 #[inline(always)]
-fn write_ascii<W: fmt::Write>(out: &mut W, bytes: &[u8]) -> fmt::Result
+fn write_ascii<W: Sink>(out: &mut W, bytes: &[u8]) -> fmt::Result
     requires { IsAscii bytes.now }
-    ensures { WroteOnOk W.write_str_gives out.old result bytes.now out.new }
+    ensures wrote { WroteOnOk W.took out.old result bytes.now out.new }
+    ensures kept { Keeps W.begins out.old out.new }
 {
-    out.write_str(unsafe { from_utf8_unchecked(bytes) })
+    out.write(unsafe { from_utf8_unchecked(bytes) })
 }

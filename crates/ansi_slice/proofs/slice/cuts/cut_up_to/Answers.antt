@@ -44,7 +44,7 @@ returns-clause-cut g c =
     let all = close (rendition_of c.stretch_of-marks.new.style) in
     let stretch = c.range.result.now in (
       good_range-by_stretch c.utf8.text c.if-end-start.false is c.is_char_boundary.ensures.test c.is_char_boundary-else-not-is_char_boundary.ensures.test c.if-not-is_char_boundary.false c.if-not-is_char_boundary-2.false,
-      c.in_ok-write_close.ensures
+      c.in_ok-write_close.ensures.bytes
           ∙ ap (λ v. v ++ all) c.in_ok-push_str.ensures.bytes
           ∙ elim c.if-start-gt0.branch [
             | then-start-gt0+in_ok-push_front w ↦ (

@@ -4,10 +4,10 @@ use Rattle.ansi_style.proofs.Common.{arith, refl, true}
 use Rattle.ansi_style.proofs.state.written.write_code.Goals as goal
 
 -- two digits
-pub returns-then-code-lt100 : goal.returns-then-code-lt100
-returns-then-code-lt100 g c = λ ok. rw (← two_digits c.args.code (omega arith) (omega arith)) (c.write_ascii.ensures ok)
+pub returns-then-code-lt100-clause-wrote : goal.returns-then-code-lt100-clause-wrote
+returns-then-code-lt100-clause-wrote g c = λ ok. rw (← two_digits c.args.code (omega arith) (omega arith)) (c.write_ascii.ensures.wrote ok)
 
 -- any other number
-pub returns : goal.returns
-returns g c = λ ok.
-    wrote_two g.W.Write.write_str_gives _ _ _ _ _ _ (wrote_once g.W.Write.write_str_gives _ _ _ (c.in_ok-write_str.ensures.ok (refl {a = true}))) (c.write_number.ensures ok) refl
+pub returns-clause-wrote : goal.returns-clause-wrote
+returns-clause-wrote g c = λ ok.
+    wrote_two g.W.Sink.took _ _ _ _ _ _ (wrote_once g.W.Sink.took _ _ _ (c.in_ok-write.ensures.took)) (c.write_number.ensures.wrote ok) refl

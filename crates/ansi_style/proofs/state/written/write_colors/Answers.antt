@@ -3,10 +3,10 @@ use Rattle.ansi_style.proofs.WritingLemmas.{color_sequences, wrote_two}
 use Rattle.ansi_style.proofs.state.written.write_colors.Goals as goal
 
 -- the codes of the three colors come in this order
-pub returns : goal.returns
+pub returns-clause-wrote : goal.returns-clause-wrote
 unfolding rendition_of
-returns g c = λ ok.
-    let took = g.W.Write.write_str_gives in
+returns-clause-wrote g c = λ ok.
+    let took = g.W.Sink.took in
     let s = c.args.style.now in
-    let after_first = wrote_two took _ _ _ _ _ _ (c.in_ok-write_color-2.ensures (refl {a = true})) (c.write_color-3.ensures ok) refl in
-    wrote_two took _ _ _ _ _ _ (c.in_ok-write_color.ensures (refl {a = true})) after_first (color_sequences s.foreground s.background s.underline_color)
+    let after_first = wrote_two took _ _ _ _ _ _ (c.in_ok-write_color-2.ensures.wrote (refl {a = true})) (c.write_color-3.ensures.wrote ok) refl in
+    wrote_two took _ _ _ _ _ _ (c.in_ok-write_color.ensures.wrote (refl {a = true})) after_first (color_sequences s.foreground s.background s.underline_color)

@@ -1,6 +1,8 @@
-use Rattle.std.proofs.Common.{rules}
+use Rattle.ansi_style.proofs.Common.{sym, ◌∙◌}
+use Rattle.ansi_style.proofs.WritingLemmas.{wrote_through}
 use Rattle.ansi_style.proofs.state.written.AnsiSequenceEndDisplay.fmt.Goals as goal
 
 -- what is printed is the close of a style that has something to end
-pub returns-in_ok-fmt-clause-writes : goal.returns-in_ok-fmt-clause-writes
-returns-in_ok-fmt-clause-writes g c = search rules
+pub returns-clause-writes : goal.returns-clause-writes
+returns-clause-writes g c = λ plain ok.
+    rw (← c.self.view_is, ← c.has_any.ensures, c.if-not-has_any.false) (wrote_through g.W.Write.write_str_gives _ _ _ (c.write_close.ensures.wrote ok) plain)

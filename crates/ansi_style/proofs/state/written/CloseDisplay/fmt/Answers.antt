@@ -1,6 +1,0 @@
-use Rattle.ansi_style.proofs.WritingLemmas.{wrote_through}
-use Rattle.ansi_style.proofs.state.written.CloseDisplay.fmt.Goals as goal
-
--- what is printed is the close of the style
-pub returns-clause-writes : goal.returns-clause-writes
-returns-clause-writes g c = λ plain ok. rw (← c.self.view_is) (wrote_through g.W.Write.write_str_gives _ _ _ (c.write_close.ensures ok) plain)
