@@ -3,6 +3,7 @@ use Rattle.std.specs.Prelude.{◌≡◌, ℕ, ◌+◌, ◌≤◌, List, [], ◌�
 use Rattle.std.specs.List.{range_with_len}
 use Rattle.std.specs.Cow.{cow_str_bytes, IsBorrowedStr}
 use Rattle.std.specs.declared.borrow.CowStr.{CowStr}
+use Rattle.ansi_style.specs.Writing.{BeginsWith}
 use Rattle.ansi_style.specs.Written.{longest_start_and_close}
 use Rattle.ansi_items.specs.Plain.{plain}
 pub use Rattle.ansi_split.specs.Parts.{CarriedPart}
@@ -30,8 +31,8 @@ GivesCarriedPart most_added old (Some (Err e)) new = (p : CarriedPart) × (ps : 
 abbrev pub GivesPart : {A E : Type 0} → List CarriedPart → Option (Result (CowStr A) E) → List CarriedPart → Type 0
 GivesPart old given new = GivesCarriedPart longest_start_and_close old given new
 
--- One call appends the first of the parts left to the text `out`. Or it runs out of memory, and then no part is left. Or no part is left, and nothing is appended.
+-- One call appends the first of the parts left to the text `out`. Or it runs out of memory, and then no part is left, and what `out` held stays; nothing is appended of a part that is a borrow. Or no part is left, and nothing is appended.
 abbrev pub PushesPart : {E : Type 0} → List CarriedPart → Option (Result Unit E) → List CarriedPart → List ℕ → List ℕ → Type 0
 PushesPart old None new out out_new = (old ≡ []) × (new ≡ []) × (out_new ≡ out)
 PushesPart old (Some (Ok _)) new out out_new = (p : CarriedPart) × (old ≡ p ∷ new) × (out_new ≡ out ++ p.bytes)
-PushesPart old (Some (Err e)) new out out_new = (p : CarriedPart) × (ps : List CarriedPart) × (old ≡ p ∷ ps) × (new ≡ [])
+PushesPart old (Some (Err e)) new out out_new = (p : CarriedPart) × (ps : List CarriedPart) × (old ≡ p ∷ ps) × (new ≡ []) × BeginsWith out_new out × (IsTrue p.borrowed → out_new ≡ out)

@@ -96,13 +96,14 @@ impl<'a, A: Allocator + Copy> Iterator for AnsiSplit<'a, A> {
 
 /// Texts that are made in turn, each of which can be appended to another text. (Own.)
 pub trait PushNext {
-    // The texts that are left.
+    /// The texts that are left.
     ghost left: { Self → List CarriedPart };
 
     /// Appends the next text to another one. A part or a line isn't made as a text of its own first.
     ///
-    /// `None` means that no text is left, and nothing is appended then. `Err` means out of memory;
-    /// what was appended before it stays, and no text is left.
+    /// `None` means that no text is left, and nothing is appended then. `Err` means out of memory.
+    /// Then no text is left. What `out` held stays, and some of the text may be appended to it, but
+    /// nothing if the text is a borrow.
     ///
     /// ```
     /// let mut parts = split_in(rt.alloc(), "\x1b[1mlion,tiger", ",");
@@ -115,6 +116,7 @@ pub trait PushNext {
             (string_bytes out.new) };
 }
 
+#[tactic(auto, using(ansi_style::proofs::FrontLemmas::begins_itself))]
 impl<'a, A: Allocator> PushNext for AnsiSplit<'a, A> {
     ghost left = { λ parts. parts };
 

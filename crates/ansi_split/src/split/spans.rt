@@ -1,11 +1,12 @@
 //! The stretches of a text that its parts are written from.
 ghost use Rattle.std.specs.Prelude.{◌≡◌, ◌≤◌, ◌+◌, ◌++◌, [], length, IsTrue, IsFalse, IsOk, IfOk};
-ghost use Rattle.std.specs.Prelude.{OnOk, string_bytes};
+ghost use Rattle.std.specs.Prelude.{OnOk, OnErr, string_bytes};
 ghost use Rattle.std.specs.Option.{MatchOption};
 ghost use Rattle.ansi_items.specs.Plain.{plain, marks, has_escape};
 ghost use Rattle.ansi_slice.specs.Cut.{interleaved};
 ghost use Rattle.ansi_search.specs.Positions.{is_char_boundary};
 ghost use Rattle.ansi_style.specs.Rendition.{plain_style};
+ghost use Rattle.ansi_style.specs.Writing.{KeepsText};
 ghost use Rattle.ansi_style.specs.Written.{longest_start_and_close};
 ghost use Rattle.ansi_split.specs.Splits.{IsCarriedPart};
 ghost use Rattle.ansi_split.specs.Spans.{parts_left};
@@ -79,8 +80,13 @@ impl<'t> PartSpan<'t> {
     }
 
     /// Appends the part. `Err` means out of memory; what was appended before it stays.
+    #[tactic(auto, using(ansi_style::proofs::FrontLemmas::keeps))]
     pub(crate) fn push_to<A: Allocator>(&self, out: &mut String<A>) -> Result<(), AllocError>
-        ensures { OnOk result (string_bytes out.new ≡ string_bytes out.old ++ self.now.bytes) }
+        ensures bytes { OnOk result
+            (string_bytes out.new ≡ string_bytes out.old ++ self.now.bytes) }
+        ensures kept { KeepsText (string_bytes out.old) (string_bytes out.new) }
+        ensures unchanged { OnErr result
+            (IsTrue self.now.borrowed → string_bytes out.new ≡ string_bytes out.old) }
     {
         match self.bare() {
             Some(bare) => out.push_str(bare),
@@ -104,9 +110,12 @@ impl<'t> PartSpan<'t> {
     /// Appends a part that isn't a borrow: the start of the style that is carried, the text with
     /// its sequences, and the close of the style then, if that has anything to end. `Err` means out
     /// of memory; what was appended before it stays.
+    #[tactic(auto, using(ansi_style::proofs::FrontLemmas::keeps))]
     fn push_styled<A: Allocator>(&self, out: &mut String<A>) -> Result<(), AllocError>
         requires { IsFalse self.now.borrowed }
-        ensures { OnOk result (string_bytes out.new ≡ string_bytes out.old ++ self.now.bytes) }
+        ensures bytes { OnOk result
+            (string_bytes out.new ≡ string_bytes out.old ++ self.now.bytes) }
+        ensures kept { KeepsText (string_bytes out.old) (string_bytes out.new) }
     {
         styles::write_start(&self.carried, out)?;
         write_text(self.text, self.is_marked, self.skip, out)?;
@@ -119,6 +128,7 @@ impl<'t> PartSpan<'t> {
 
 /// Appends a text with its sequences, but without its first `skip` plain bytes. `Err` means out of
 /// memory; what was appended before it stays.
+#[tactic(auto, using(ansi_style::proofs::FrontLemmas::keeps))]
 fn write_text<A: Allocator>(
     text: &str,
     is_marked: bool,
@@ -127,8 +137,9 @@ fn write_text<A: Allocator>(
 ) -> Result<(), AllocError>
     requires marked { is_marked ≡ has_escape text.now }
     requires boundary { IsTrue (is_char_boundary (plain text.now) skip) }
-    ensures { OnOk result (string_bytes part.new ≡ string_bytes part.old
+    ensures bytes { OnOk result (string_bytes part.new ≡ string_bytes part.old
         ++ interleaved (plain text.now) skip (length (plain text.now)) (marks text.now)) }
+    ensures kept { KeepsText (string_bytes part.old) (string_bytes part.new) }
 {
     if !is_marked {
         return part.push_str(&text[skip..]);

@@ -10,8 +10,8 @@ joined out a b c one two three =
 
 -- the start, the text, and the close if the style has one
 
-pub returns-in_ok-write_close : goal.returns-in_ok-write_close
-returns-in_ok-write_close g c =
+pub returns-in_ok-write_close-clause-bytes : goal.returns-in_ok-write_close-clause-bytes
+returns-in_ok-write_close-clause-bytes g c =
     let s = c.self.inside in
     let style = rendition_of s.carried in
     let t = s.text.now in
@@ -19,10 +19,10 @@ returns-in_ok-write_close g c =
     = sym (bytes-owned style t s.skip (ap (λ (q : CarriedPart). q.borrowed) c.self.view_is ∙ c.requires)) ∙ ap (λ (q : CarriedPart). q.bytes) c.self.view_is in
     let whole : (start style ++ left_of s.skip (pieces_of t)) ++ close (rendition_of s.after) ≡ span_text style t s.skip
     = span-closed style t s.skip (rendition_of s.after) c.self.invariant.is_after (sym c.has_any.ensures ∙ c.if-has_any.true) refl in
-    joined _ _ _ _ c.in_ok-write_start.ensures c.in_ok-write_text.ensures c.in_ok-write_close.ensures ∙ ap (λ v. string_bytes c.args.out.now ++ v) (whole ∙ part)
+    joined _ _ _ _ c.in_ok-write_start.ensures.bytes c.in_ok-write_text.ensures.bytes c.in_ok-write_close.ensures.bytes ∙ ap (λ v. string_bytes c.args.out.now ++ v) (whole ∙ part)
 
-pub returns-else-has_any : goal.returns-else-has_any
-returns-else-has_any g c =
+pub returns-else-has_any-clause-bytes : goal.returns-else-has_any-clause-bytes
+returns-else-has_any-clause-bytes g c =
     let s = c.self.inside in
     let style = rendition_of s.carried in
     let t = s.text.now in
@@ -30,5 +30,5 @@ returns-else-has_any g c =
     = sym (bytes-owned style t s.skip (ap (λ (q : CarriedPart). q.borrowed) c.self.view_is ∙ c.requires)) ∙ ap (λ (q : CarriedPart). q.bytes) c.self.view_is in
     let whole : start style ++ left_of s.skip (pieces_of t) ≡ span_text style t s.skip
     = span-open style t s.skip (rendition_of s.after) c.self.invariant.is_after (sym c.has_any.ensures ∙ c.if-has_any.false) refl in
-    c.in_ok-write_text.ensures ∙ ap (λ v. v ++ left_of s.skip (pieces_of t)) c.in_ok-write_start.ensures ∙ append_assoc (string_bytes c.args.out.now) (start style) (left_of s.skip (pieces_of t))
+    c.in_ok-write_text.ensures.bytes ∙ ap (λ v. v ++ left_of s.skip (pieces_of t)) c.in_ok-write_start.ensures.bytes ∙ append_assoc (string_bytes c.args.out.now) (start style) (left_of s.skip (pieces_of t))
     ∙ ap (λ v. string_bytes c.args.out.now ++ v) (whole ∙ part)
