@@ -1,9 +1,12 @@
 -- Lines after indents.
-use Rattle.std.proofs.Common.{◌≡◌, ℕ, ◌-◌, List, [], ◌∷◌, ◌++◌, Option, None, Some, Result, Ok, Err, IsTrue, refl, ◌∙◌, ap, arith, append_assoc, append-nil}
+use Rattle.std.proofs.Common.{◌≡◌, ℕ, ◌-◌, List, [], ◌∷◌, ◌++◌, length, drop, ◌==◌, Option, None, Some, Result, Ok, Err, IsTrue, refl, sym, ◌∙◌, ap, arith, append_assoc, append-nil}
 use Rattle.std.specs.List.{list_all}
-use Rattle.std.proofs.lemmas.Bool.{and_from, and_parts}
+use Rattle.std.proofs.lemmas.Bool.{and_from, and_parts, eqb-true}
+use Rattle.std.proofs.lemmas.List.{take-append-drop}
 use Rattle.ansi_columns.specs.declared.shown.Alignment.TheVariants.{Left}
 use Rattle.ansi_columns.specs.Shown.{missing, before_text, blanks, closing, padded}
+use Rattle.ansi_style.specs.Writing.{BeginsWith}
+use Rattle.ansi_style.proofs.FrontLemmas.{begins_more, begins_itself}
 use Rattle.ansi_split.specs.Splits.{CarriedPart, PushesPart}
 use Rattle.ansi_columns.specs.Indents.{shown_indent, after_indent, indented}
 
@@ -25,10 +28,26 @@ pub filled : (ls : List CarriedPart) → (ls ≡ [] → ⊥) → (l : CarriedPar
 filled [] some = absurd (some refl)
 filled (l ∷ ls) some = (l, ls, refl)
 
+-- what begins with a text and an indent begins with the text
+begins_less : (text more front after : List ℕ) → front ≡ text ++ more → BeginsWith after front → BeginsWith after text
+begins_less text more front after is begins =
+    begins_more front (drop (length front) after) after text (sym (take-append-drop (length front) after) ∙ ap (λ t. t ++ drop (length front) after) begins)
+    (begins_more text more front text is (begins_itself text))
+
+nothing_before : (text first : List ℕ) → length first ≡ 0 → text ++ shown_indent first ≡ text
+nothing_before text [] none = append-nil text
+nothing_before text (b ∷ bs) none = absurd (cc none)
+
 pub pushes-indented : {E : Type 0} (first later text indented_text after : List ℕ) (old new : List CarriedPart) (pushed : Option (Result Unit E)) → (old ≡ [] → ⊥) → indented_text ≡ text ++ shown_indent first → PushesPart old pushed new indented_text after
     → PushesPart (indented first later old) pushed (indented later later new) text after
 pushes-indented first later text indented_text after old new None some is pushes = absurd (some pushes.0)
 pushes-indented first later text indented_text after old new (Some (Ok u)) some is (l, front, more) =
     (after_indent first l, ap (indented first later) front, more ∙ ap (λ v. v ++ l.bytes) is ∙ append_assoc text (shown_indent first) l.bytes)
-pushes-indented first later text indented_text after old new (Some (Err e)) some is (l, ls, front, none) =
-    (after_indent first l, indented later later ls, ap (indented first later) front, ap (indented later later) none)
+pushes-indented first later text indented_text after old new (Some (Err e)) some is (l, ls, front, none, kept, unchanged) = (
+  after_indent first l,
+  indented later later ls,
+  ap (indented first later) front,
+  ap (indented later later) none,
+  begins_less text (shown_indent first) indented_text after is kept,
+  λ lent. (let both = and_parts (length first == 0) l.borrowed lent in unchanged both.1 ∙ is ∙ nothing_before text first (eqb-true (length first) 0 both.0)),
+)

@@ -257,7 +257,12 @@ impl<'t> Parts<'t> {
             .saturating_add(links)
             .saturating_add(self.before)
             .saturating_add(self.after);
-        let mut out = styles::with_room(alloc, &self.opened.style, len, &self.closed.style)?;
+        let mut out = styles::with_room_to_close(
+            alloc,
+            &self.opened.style,
+            len,
+            &self.closed.style,
+        )?;
         self.push_to(&mut out)?;
         Ok(CowStr::Owned(out))
     }

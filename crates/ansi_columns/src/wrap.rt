@@ -125,6 +125,7 @@ impl<'t, A: Allocator + Copy> Iterator for AnsiWrap<'t, A> {
     }
 }
 
+#[tactic(auto, using(ansi_style::proofs::FrontLemmas::begins_itself))]
 impl<'t, A: Allocator> PushNext for AnsiWrap<'t, A> {
     ghost left = { λ lines. lines };
 

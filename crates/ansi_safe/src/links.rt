@@ -144,6 +144,7 @@ impl Ending {
     ghost use Rattle.std.specs.Prelude.{◌≡◌, ◌==◌, ◌++◌, length, OnOk, string_bytes};
     ghost use Rattle.ansi_style.specs.States.{rendition_of};
     ghost use Rattle.ansi_style.specs.Written.{close};
+    ghost use Rattle.ansi_style.specs.Writing.{KeepsText};
 
     /// Whether nothing is open.
     pub fn is_empty(&self) -> bool
@@ -154,9 +155,11 @@ impl Ending {
     }
 
     /// Appends it. `Err` means out of memory; what was appended before it stays.
+    #[tactic(auto, using(ansi_style::proofs::FrontLemmas::keeps))]
     pub fn push_to<A: Allocator>(&self, out: &mut String<A>) -> Result<(), AllocError>
-        ensures { OnOk result (string_bytes out.new ≡ string_bytes out.old
+        ensures bytes { OnOk result (string_bytes out.new ≡ string_bytes out.old
             ++ (self.now.link_end.now ++ close (rendition_of self.now.style))) }
+        ensures kept { KeepsText (string_bytes out.old) (string_bytes out.new) }
     {
         out.push_str(self.link_end)?;
         styles::write_close(&self.style, out)

@@ -1,5 +1,5 @@
 //! Wrapped lines with an indent before each.
-ghost use Rattle.std.specs.Prelude.{◌≡◌, ◌+◌, ◌++◌, [], IsTrue, IsFalse, IsOk, IfOk, OnOk};
+ghost use Rattle.std.specs.Prelude.{◌≡◌, ◌+◌, ◌++◌, [], IsTrue, IsFalse, IsOk, IfOk, OnOk, OnErr};
 ghost use Rattle.std.specs.Prelude.{string_bytes};
 ghost use Rattle.std.specs.List.{list_all};
 ghost use Rattle.ansi_items.specs.Plain.{has_escape};
@@ -183,14 +183,16 @@ impl<'t, 'a, A: Allocator + Copy> PushNext for AnsiWrapWith<'t, 'a, A> {
     }
 }
 
-/// Appends an indent, which is shown as a text of its own.
+/// Appends an indent, which is shown as a text of its own. `Err` means out of memory, and then
+/// nothing is appended.
 fn push_indent<A: Allocator + Copy, B: Allocator>(
     alloc: A,
     indent: &str,
     out: &mut String<B>,
 ) -> Result<(), AllocError>
-    ensures { OnOk result
+    ensures bytes { OnOk result
         (string_bytes out.new ≡ string_bytes out.old ++ shown_indent indent.now) }
+    ensures kept { OnErr result (string_bytes out.new ≡ string_bytes out.old) }
 {
     if indent.is_empty() {
         return Ok(());

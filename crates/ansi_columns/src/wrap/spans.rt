@@ -1,10 +1,11 @@
 //! The stretches of a text from which the lines of a wrap are written.
 ghost use Rattle.std.specs.Prelude.{◌≡◌, ◌+◌, ◌++◌, ◌≤◌, ℕ, List, [], length, IsTrue, IsFalse, IsOk};
-ghost use Rattle.std.specs.Prelude.{IfOk, IfSome, OnOk, ◌∷◌, string_bytes};
+ghost use Rattle.std.specs.Prelude.{IfOk, IfSome, OnOk, OnErr, ◌∷◌, string_bytes};
 ghost use Rattle.std.specs.Iterator.{YieldsFirst};
 ghost use Rattle.std.specs.Option.{MatchOption};
 ghost use Rattle.ansi_items.specs.Plain.{plain, marks};
 ghost use Rattle.ansi_style.specs.Rendition.{plain_style};
+ghost use Rattle.ansi_style.specs.Writing.{KeepsText};
 ghost use Rattle.ansi_style.specs.Written.{longest_start_and_close};
 ghost use Rattle.ansi_safe.specs.Links.{longest_link_end};
 ghost use Rattle.ansi_split.specs.Splits.{IsCarriedPart};
@@ -100,8 +101,13 @@ impl<'t> Span<'t> {
     }
 
     /// Appends the line. `Err` means out of memory; what was appended before it stays.
+    #[tactic(auto, using(ansi_style::proofs::FrontLemmas::keeps))]
     pub(crate) fn push_to<A: Allocator>(&self, out: &mut String<A>) -> Result<(), AllocError>
-        ensures { OnOk result (string_bytes out.new ≡ string_bytes out.old ++ self.now.bytes) }
+        ensures bytes { OnOk result
+            (string_bytes out.new ≡ string_bytes out.old ++ self.now.bytes) }
+        ensures kept { KeepsText (string_bytes out.old) (string_bytes out.new) }
+        ensures unchanged { OnErr result
+            (IsTrue self.now.borrowed → string_bytes out.new ≡ string_bytes out.old) }
     {
         match self.bare() {
             Some(bare) => out.push_str(bare),
@@ -117,16 +123,24 @@ impl<'t> Span<'t> {
         let links = self.carried.link.len() + self.after.link_end().len();
         let len = self.text.len().saturating_sub(self.start);
         let len = len.saturating_add(links);
-        let mut line = styles::with_room(alloc, &self.carried.style, len, &self.after.style)?;
+        let mut line = styles::with_room_to_close(
+            alloc,
+            &self.carried.style,
+            len,
+            &self.after.style,
+        )?;
         self.push_styled(&mut line)?;
         Ok(line)
     }
 
     /// Appends the owned line: the style and link carried into it, its text with its sequences, and
-    /// what ends both.
+    /// what ends both. `Err` means out of memory; what was appended before it stays.
+    #[tactic(auto, using(ansi_style::proofs::FrontLemmas::keeps))]
     fn push_styled<A: Allocator>(&self, out: &mut String<A>) -> Result<(), AllocError>
         requires { IsFalse self.now.borrowed }
-        ensures { OnOk result (string_bytes out.new ≡ string_bytes out.old ++ self.now.bytes) }
+        ensures bytes { OnOk result
+            (string_bytes out.new ≡ string_bytes out.old ++ self.now.bytes) }
+        ensures kept { KeepsText (string_bytes out.old) (string_bytes out.new) }
     {
         styles::write_start(&self.carried.style, out)?;
         out.push_str(self.carried.link)?;

@@ -3,6 +3,7 @@ ghost use Rattle.std.specs.Prelude.{◌≡◌, ◌++◌, IsTrue, IfOk, OnOk, str
 ghost use Rattle.ansi_items.specs.Pieces.{pieces_of};
 ghost use Rattle.ansi_items.specs.Plain.{plain};
 ghost use Rattle.ansi_search.specs.Positions.{no_character_goes_on};
+ghost use Rattle.ansi_style.specs.Writing.{KeepsText};
 ghost use Rattle.ansi_slice.specs.Stretches.{IsFirstRun, sequences_up_to};
 ghost use Rattle.ansi_search.specs.Offsets.{StandsIn};
 
@@ -12,6 +13,7 @@ use std::alloc::{AllocError, Allocator};
 /// Appends every sequence of a text up to a good position of its plain text. Returns the offset of
 /// the position in the text, after these sequences. `Err` means out of memory; what was appended
 /// before it stays. (Own.)
+#[tactic(auto, using(ansi_style::proofs::FrontLemmas::keeps))]
 pub fn push_sequences<A: Allocator>(
     out: &mut String<A>,
     text: &str,
@@ -21,6 +23,7 @@ pub fn push_sequences<A: Allocator>(
     ensures bytes { OnOk result (string_bytes out.new
         ≡ string_bytes out.old ++ sequences_up_to position (pieces_of text.now)) }
     ensures offset { IfOk result (StandsIn text.now position) }
+    ensures kept { KeepsText (string_bytes out.old) (string_bytes out.new) }
 {
     let mut remaining = position;
     for item in Scanner::new(text) {

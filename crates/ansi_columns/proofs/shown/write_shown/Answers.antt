@@ -28,6 +28,6 @@ returns-clause-bytes g c =
     let tail = c.args.tail.now in
     let before = c.before_text-before.result in
     let more = blanks (c.args.missing - before) in
-    c.in_ok-push_blanks.ensures ∙ ap (λ u. u ++ more) (c.in_ok-push_str.ensures.bytes ∙ ap (λ u. u ++ tail) (c.in_ok-push_to.ensures ∙ ap (λ u. u ++ closes) c.in_ok-out.ensures))
+    c.in_ok-push_blanks.ensures ∙ ap (λ u. u ++ more) (c.in_ok-push_str.ensures.bytes ∙ ap (λ u. u ++ tail) (c.in_ok-push_to.ensures.bytes ∙ ap (λ u. u ++ closes) c.in_ok-out.ensures))
     ∙ ap (λ u. (u ++ tail) ++ more) (append_assoc (blanks before) x closes) ∙ ap (λ u. u ++ more) (append_assoc (blanks before) (x ++ closes) tail)
     ∙ ap (λ n. (blanks n ++ ((x ++ closes) ++ tail)) ++ blanks (c.args.missing - n)) c.before_text-before.ensures.count

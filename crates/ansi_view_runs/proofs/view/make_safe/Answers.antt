@@ -25,7 +25,7 @@ returns-in_ok-push_to-in-Some-clause-bytes g c =
     let policy = c.args.policy in
     let body : string_bytes c.in_ok-body.body ≡ t = c.in_ok-body.ensures ∙ ap (λ u. u ++ c.args.text.now) c.as_str.ensures.value in
     let safe : is_safe policy.links t ≡ true = ap (is_safe policy.links) (sym (c.as_str-2.ensures.value ∙ body)) ∙ sym c.in-Some.ensures.none in
-    rw (c.in_ok-push_to-in-Some.ensures, c.ending-ending.ensures.link_end, c.in-Some.ensures.link, c.ending-ending.ensures.style, c.in-Some.ensures.style, c.as_str-2.ensures.value, body) (sym (sanitized-safe policy t safe))
+    rw (c.in_ok-push_to-in-Some.ensures.bytes, c.ending-ending.ensures.link_end, c.in-Some.ensures.link, c.ending-ending.ensures.style, c.in-Some.ensures.style, c.as_str-2.ensures.value, body) (sym (sanitized-safe policy t safe))
 
 pub returns-in_ok-push_to-in-Some-clause-safe : goal.returns-in_ok-push_to-in-Some-clause-safe
 returns-in_ok-push_to-in-Some-clause-safe g c =

@@ -26,11 +26,11 @@ returns g c =
     let rest = c.range_from.result.now in
     let opening : string_bytes c.push_blanks.new.out ≡ old ++ parts_opening s
     = c.in_ok-push_blanks.ensures ∙ ap (λ u. u ++ blanks s.before)
-    (c.in_ok-push_str.ensures.bytes ∙ ap (λ u. u ++ s.opened.link.now) c.in_ok-write_start.ensures)
+    (c.in_ok-push_str.ensures.bytes ∙ ap (λ u. u ++ s.opened.link.now) c.in_ok-write_start.ensures.bytes)
     ∙ append_assoc-four old (start (rendition_of s.opened.style)) s.opened.link.now (blanks s.before) in
     let before_close : string_bytes c.push_blanks-2.new.out ≡ ((string_bytes c.push_blanks.new.out ++ from) ++ rest) ++ blanks s.after
     = c.in_ok-push_blanks-2.ensures ∙ ap (λ u. u ++ blanks s.after) (c.in_ok-push_str-2.ensures.bytes ∙ ap (λ u. u ++ rest) c.in_ok-shown.ensures.bytes) in
     on_ok_weaker c.push_to.result (λ written.
     written ∙ ap (λ u. string_bytes c.push_blanks-2.new.out ++ u) (ap₂ (λ l r. l ++ close (rendition_of r)) c.ending.ensures.link_end c.ending.ensures.style)
     ∙ parts-written from rest (blanks s.after) (link_end s.closed.link.now ++ close (rendition_of s.closed.style)) opening (text-written c.requires.within c.in_ok-shown.ensures.offset c.range_from.ensures.value) before_close
-    ∙ append_assoc-four old (parts_opening s) _ _) c.push_to.ensures
+    ∙ append_assoc-four old (parts_opening s) _ _) c.push_to.ensures.bytes

@@ -1,7 +1,8 @@
-use Rattle.std.proofs.Common.{sym, ◌∙◌, ap}
+use Rattle.std.proofs.Common.{refl, sym, ◌∙◌, ap}
 use Rattle.std.specs.Cow.{cow_str_bytes}
 use Rattle.ansi_columns.specs.Wrapped.{lent_lines}
 use Rattle.ansi_columns.specs.WrapStates.{shown_text, is_lent}
+use Rattle.ansi_style.proofs.FrontLemmas.{begins_itself}
 use Rattle.ansi_columns.proofs.LentLemmas.{failed-first}
 use Rattle.ansi_columns.proofs.wrap.AnsiWrapPushNext.push_next.Goals as goal
 
@@ -14,6 +15,8 @@ returns-in-Some g c =
       first.1,
       sym c.self.view_is ∙ first.2,
       ap (lent_lines (is_lent s.text c.take.new.self)) (c.finish.ensures.lines (shown_text s.text c.take.new.self)),
+      begins_itself _,
+      λ lent. refl,
     )
 
 pub invariant_of-self : goal.invariant_of-self

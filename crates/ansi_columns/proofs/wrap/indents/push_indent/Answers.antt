@@ -9,7 +9,7 @@ OnOk-pushed : {U E : Type 0} (old new more all : List ℕ) (r : Result U E) → 
 OnOk-pushed old new more all (Ok u) is same = is ∙ same
 OnOk-pushed old new more all (Err e) is same = tt
 
-pub returns : goal.returns
-returns g c =
+pub returns-clause-bytes : goal.returns-clause-bytes
+returns-clause-bytes g c =
     OnOk-pushed _ _ _ _ c.push_str.result c.push_str.ensures.bytes
     (ap (λ u. string_bytes c.args.out.now ++ u) (c.as_str.ensures.value ∙ c.in_ok-shown.ensures.bytes ∙ padded-closed_alone (cell c.args.indent.now)))

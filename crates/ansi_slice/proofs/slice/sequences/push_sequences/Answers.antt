@@ -1,6 +1,7 @@
 use Rattle.ansi_slice.proofs.Common.{◌≡◌, ◌+◌, refl, ◌∙◌, ap, string_bytes, kind_is_text, plain_style, apply}
 use Rattle.ansi_search.proofs.OffsetLemmas.{over_text, over_mark, kind_differs, offset_walk-begin, offset_walk-text, offset_walk-mark, offset_walk-last, offset_walk-boundary}
 use Rattle.ansi_slice.proofs.StretchLemmas.{pushed-begin, pushed-text, pushed-mark, pushed-last}
+use Rattle.ansi_style.proofs.FrontLemmas.{begins_more}
 use Rattle.ansi_slice.proofs.slice.sequences.push_sequences.Goals as goal
 
 pub loop-item-init : goal.loop-item-init
@@ -10,6 +11,7 @@ loop-item-init g c =
       text = ap (λ s. s.text) begins;
       way = rw begins (plain_style, offset_walk-begin c.args.text.now c.args.position plain_style);
       so_far = rw begins (pushed-begin (string_bytes c.args.out.now) c.args.text.now c.args.position);
+      kept = λ front begins. begins;
     }
 
 -- over a text
@@ -22,6 +24,7 @@ loop-item-preserved-then-eq g c =
       text = gives.text ∙ c.loop-item.invariant.text;
       way = (way.0, offset_walk-text way.1 over c.if-remaining-piece.false refl);
       so_far = pushed-text c.loop-item.invariant.so_far over.first c.if-remaining-piece.false refl;
+      kept = c.loop-item.invariant.kept;
     }
 
 -- over a sequence, or a lone escape
@@ -34,6 +37,7 @@ loop-item-preserved g c =
       text = gives.text ∙ c.loop-item.invariant.text;
       way = (apply way.0 c.range-piece.result.now, offset_walk-mark way.1 over refl);
       so_far = pushed-mark c.loop-item.invariant.so_far over.first c.in_ok-push_str.ensures.bytes;
+      kept = λ front begins. begins_more _ _ _ front c.in_ok-push_str.ensures.bytes (c.loop-item.invariant.kept front begins);
     }
 
 -- the position is in a text

@@ -7,6 +7,7 @@ use Rattle.ansi_slice.specs.Stretches.{sequences_up_to}
 use Rattle.ansi_items.proofs.PlainLemmas.{length-plain}
 use Rattle.ansi_search.proofs.PositionLemmas.{no_character_goes_on-past}
 use Rattle.ansi_columns.specs.Wrapped.{CarriedPart, pen_end}
+use Rattle.ansi_style.proofs.FrontLemmas.{begins_more}
 use Rattle.ansi_columns.proofs.WrapLemmas.{line-written, line-ordered}
 use Rattle.ansi_columns.proofs.wrap.spans.Span.push_styled.Goals as goal
 
@@ -28,8 +29,8 @@ OnOk-same (Ok u) new old all is same = is ∙ same
 OnOk-same (Err e) new old all is same = tt
 
 -- what is written, one part after another
-pub returns : goal.returns
-returns g c =
+pub returns-clause-bytes : goal.returns-clause-bytes
+returns-clause-bytes g c =
     let s = c.self.inside in
     let t = s.text.now in
     let size : length t < 2 ^ 63 = search rules in
@@ -40,15 +41,22 @@ returns g c =
     let from = sequences_up_to s.start (pieces_of t) in
     let old = string_bytes c.args.out.now in
     let pen : string_bytes c.push_str.new.self ≡ old ++ start style ++ link
-    = c.in_ok-push_str.ensures.bytes ∙ ap (λ u. u ++ link) c.in_ok-write_start.ensures in
+    = c.in_ok-push_str.ensures.bytes ∙ ap (λ u. u ++ link) c.in_ok-write_start.ensures.bytes in
     let text : string_bytes c.push_str-2.new.self ≡ old ++ start style ++ link ++ from ++ slice_range t c.in_ok-start.start s.end_offset
     = c.in_ok-push_str-2.ensures.bytes ∙ ap₂ (λ u v. u ++ v) (c.in_ok-start.ensures.bytes ∙ ap (λ u. u ++ from) pen) c.range.ensures.value in
     let last = sequences_up_to top (pieces_of (drop s.end_offset t)) in
     let ended = pen_end s.after.link.now (rendition_of s.after.style) in
-    OnOk-same c.push_to.result _ _ _ c.push_to.ensures
+    OnOk-same c.push_to.result _ _ _ c.push_to.ensures.bytes
     (ap₂ (λ l r. string_bytes c.push_sequences-2.new.out ++ (l ++ close (rendition_of r))) c.ending.ensures.link_end c.ending.ensures.style
     ∙ ap (λ u. u ++ ended) (c.in_ok-push_sequences.ensures.bytes ∙ ap₂ (λ u v. u ++ sequences_up_to top (pieces_of v)) text c.range_from.ensures.value)
     ∙ append_assoc-seven old (start style) link from (slice_range t c.in_ok-start.start s.end_offset) last ended
     ∙ ap (λ u. old ++ u)
     (line-written {top = top} c.self.invariant c.in_ok-start.ensures.offset (omega (arith, size)) (ap (λ (l : CarriedPart). l.borrowed) view ∙ c.requires)
     ∙ ap (λ (l : CarriedPart). l.bytes) view))
+
+-- each appends
+pub returns-clause-kept : goal.returns-clause-kept
+returns-clause-kept g c = λ front begins.
+    let pen = begins_more _ _ _ front c.in_ok-push_str.ensures.bytes (begins_more _ _ _ front c.in_ok-write_start.ensures.bytes begins) in
+    let text = begins_more _ _ _ front c.in_ok-push_str-2.ensures.bytes (c.in_ok-start.ensures.kept front pen) in
+    c.push_to.ensures.kept front (c.in_ok-push_sequences.ensures.kept front text)
