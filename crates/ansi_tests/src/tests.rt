@@ -3,6 +3,7 @@ mod blocks;
 mod callers;
 mod colors;
 mod requests;
+mod writers;
 
 use std::fmt::Debug;
 use std::process::Abort;
