@@ -23,13 +23,13 @@ use Rattle.ansi_style.proofs.StyleLemmas.{IsStyle-style_after}
 use Rattle.ansi_safe.specs.declared.policy.Links.{Links}
 use Rattle.ansi_safe.specs.declared.policy.Policy.{Policy}
 use Rattle.ansi_safe.specs.declared.policy.Rest.{Rest}
-use Rattle.ansi_safe.specs.Links.{is_link, opens_link, link_of, link_after, ending}
+use Rattle.ansi_safe.specs.Links.{IsClosed, is_link, opens_link, link_of, link_after, ending}
 use Rattle.ansi_safe.specs.Safe.{is_printable_byte, may_stay, is_safe}
 use Rattle.ansi_safe.specs.Sanitized.{becomes, cleaned, made_of, sanitized}
 use Rattle.ansi_safe.proofs.AllowedLemmas.{made_of_run-stands, instead_of_all-stands}
 use Rattle.ansi_safe.proofs.FrontLemmas.{printable-ascii}
 use Rattle.ansi_safe.proofs.LinkLemmas.{link_through, link_of-pieces}
-use Rattle.ansi_safe.proofs.SafeLemmas.{piece_and_rest, AreGood, AreGood-append, good_are_safe, good_text, cleaned_pieces, cleaned-good, spelled-cleaned_pieces, ended_pieces, spelled-ended_pieces, ended-good}
+use Rattle.ansi_safe.proofs.SafeLemmas.{piece_and_rest, AreGood, AreGood-append, good_are_safe, good_text, cleaned_pieces, cleaned-good, spelled-cleaned_pieces, ended_pieces, spelled-ended_pieces, ended-good, sanitized-is_closed}
 use Rattle.ansi_view_runs.specs.declared.view.View.{View}
 use Rattle.ansi_view_runs.specs.Lines.{Line, first_line, first_lines, is_line_feed, lines, max_piece, piece_len, split_end, split_unended}
 use Rattle.ansi_view_runs.specs.Views.{Work, body, decoded, opening_of, opening_after, shown, viewed, viewed_all, view_of}
@@ -218,6 +218,21 @@ sanitized-good policy t utf8 =
       spell = spelled-ended_pieces ps ∙ ap (λ v. v ++ ending v) (spelled-cleaned_pieces policy t);
     }
 
+-- The text of a line is made safe, and ends what it leaves open.
+
+shown-good : (view : View) (opening : List ℕ) (line : Line) → IsUtf8 opening → IsGoodText view.policy.links (shown view opening line)
+shown-good view opening line utf8 =
+    let t = body view opening line.text in
+    either (IsGoodText view.policy.links) (length line.text == 0) [] (sanitized view.policy t) (good-none view.policy.links) (sanitized-good view.policy t (body-utf8 view opening line.text utf8))
+
+pub shown-safe : (view : View) (opening : List ℕ) (line : Line) → IsUtf8 opening → is_safe view.policy.links (shown view opening line) ≡ true
+shown-safe view opening line utf8 = good-safe (shown-good view opening line utf8)
+
+pub shown-closed : (view : View) (opening : List ℕ) (line : Line) → IsUtf8 opening → IsClosed (shown view opening line)
+shown-closed view opening line utf8 =
+    let t = body view opening line.text in
+    either IsClosed (length line.text == 0) [] (sanitized view.policy t) (record { style = refl; link = refl }) (sanitized-is_closed view.policy t (body-utf8 view opening line.text utf8))
+
 -- The lines of an input have ends that may stand anywhere.
 
 abbrev IsEnd : List ℕ → Type 0
@@ -254,8 +269,7 @@ module _ (work : Work) (unchanged : work.changes ≡ []) where
 
   line-good : (opening : List ℕ) (line : Line) → IsUtf8 opening → IsEnd line.end → IsGoodText links (viewed work opening line)
   line-good opening line utf8 end =
-      let t = body work.view opening line.text in
-      let text : IsGoodText links (shown work.view opening line) = either (IsGoodText links) (length line.text == 0) [] (sanitized work.view.policy t) (good-none links) (sanitized-good work.view.policy t (body-utf8 work.view opening line.text utf8)) in
+      let text = shown-good work.view opening line utf8 in
       subst (IsGoodText links) (sym (viewed-unchanged work opening line unchanged)) (good-append text (end-good links line.end end))
 
   lines-good : (k : ℕ) (t opening : List ℕ) → IsUtf8 opening → IsGoodText links (viewed_all work opening (first_lines k t))
