@@ -1,5 +1,5 @@
 -- The first bad word, and a word that asks for a change.
-use Rattle.std.proofs.Common.{◌≡◌, List, ℕ, [], ◌∷◌, ◌++◌, None, Some, false, true, refl, ap, sym, ◌∙◌}
+use Rattle.std.proofs.Common.{◌≡◌, List, ℕ, [], ◌∷◌, ◌++◌, None, Some, false, refl, ap, sym, ◌∙◌}
 use Rattle.std.specs.Prelude.{◌≢◌, codes, fold}
 use Rattle.std.specs.Str.{bytes_eq}
 use Rattle.std.proofs.lemmas.Bool.{false_from_ne_true}

@@ -1,5 +1,5 @@
 -- What the program's words mean.
-use Rattle.std.specs.Prelude.{ℕ, Bool, false, true, not, ◌||◌, List, [], ◌∷◌, ◌++◌, Option, Some, None, codes, fold, is_some, unwrap_or, if◌then◌else◌}
+use Rattle.std.specs.Prelude.{ℕ, Bool, false, true, not, ◌||◌, List, [], ◌∷◌, ◌++◌, Option, None, codes, fold, is_some, unwrap_or, if◌then◌else◌}
 use Rattle.std.specs.Option.{option_map, option_and_then, option_map_or}
 use Rattle.std.specs.List.{find}
 use Rattle.std.specs.Str.{bytes_eq}

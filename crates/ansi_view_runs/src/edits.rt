@@ -50,16 +50,16 @@ pub fn edit_in_turn<A: Allocator + Copy>(
 
 /// What the edits in front of the first `Wrap` make of a text in turn, and the other edits.
 ///
-/// It borrows from the text if no edit changes it. `Err` means out of memory. (Own.)
+/// A text that no edit changes is passed on. `Err` means out of memory. (Own.)
 pub(crate) fn edit_up_to_wrap<'t, 'e, 'w, A: Allocator + Copy>(
     alloc: A,
     edits: &'e [ColumnEdit<'w>],
-    text: &'t str,
+    text: CowStr<'t, A>,
 ) -> Result<(CowStr<'t, A>, &'e [ColumnEdit<'w>]), AllocError>
-    ensures { IfOk result (λ made. changed_in_turn (changes_of edits.now) text.now
+    ensures { IfOk result (λ made. changed_in_turn (changes_of edits.now) (cow_str_bytes text.entry)
         ≡ changed_in_turn (changes_of made.1.now) (cow_str_bytes made.0)) }
 {
-    let mut edited = CowStr::Borrowed(text);
+    let mut edited = text;
     let mut left = edits;
     while let [edit, more @ ..] = left {
         if matches!(edit, ColumnEdit::Wrap(_)) {
@@ -71,7 +71,8 @@ pub(crate) fn edit_up_to_wrap<'t, 'e, 'w, A: Allocator + Copy>(
     Ok((edited, left))
 }
 
-// What an edit makes of a text, if it isn't a wrap. It may borrow from what the text borrows.
+// What an edit makes of a text, if it isn't a wrap. It may borrow from what the text borrows, and an
+// owned text that it keeps is passed on.
 fn edit_again<'t, A: Allocator + Copy>(
     alloc: A,
     edit: &ColumnEdit<'_>,
@@ -84,8 +85,11 @@ fn edit_again<'t, A: Allocator + Copy>(
     match text {
         CowStr::Borrowed(text) => edit_whole(alloc, edit, text),
         CowStr::Owned(text) => {
-            let edited = edit_whole(alloc, edit, text.as_str())?;
-            Ok(CowStr::Owned(edited.into_owned(alloc)?))
+            let edited = match edit_whole(alloc, edit, text.as_str())? {
+                CowStr::Borrowed(kept) if kept == text.as_str() => None,
+                edited => Some(edited.into_owned(alloc)?),
+            };
+            Ok(CowStr::Owned(edited.unwrap_or(text)))
         }
     }
 }

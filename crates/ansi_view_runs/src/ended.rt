@@ -1,5 +1,5 @@
 //! What edits make of a line, and its end.
-ghost use Rattle.std.specs.Prelude.{◌≡◌, ◌++◌, IfOk, string_bytes};
+ghost use Rattle.std.specs.Prelude.{◌≡◌, ◌≤◌, ◌+◌, ◌*◌, ◌++◌, IfOk, length, string_bytes};
 ghost use Rattle.std.specs.Cow.{cow_str_bytes};
 ghost use Rattle.std.specs.List.{join_by};
 ghost use Rattle.ansi_lines_runs.specs.Runs.{words_of};
@@ -16,11 +16,11 @@ use std::borrow::CowStr;
 pub(crate) fn edit_line<A: Allocator + Copy>(
     alloc: A,
     edits: &[ColumnEdit<'_>],
-    text: &str,
+    text: CowStr<'_, A>,
     end: &str,
 ) -> Result<String<A>, AllocError>
     ensures { IfOk result (λ s.
-        string_bytes s ≡ changed_line (changes_of edits.now) text.now end.now) }
+        string_bytes s ≡ changed_line (changes_of edits.now) (cow_str_bytes text.entry) end.now) }
 {
     let (edited, left) = edit_up_to_wrap(alloc, edits, text)?;
     edit_further(alloc, left, edited, end)
@@ -55,10 +55,7 @@ pub(crate) fn end_text<A: Allocator>(
     ensures { IfOk result (λ s. string_bytes s ≡ cow_str_bytes text.entry ++ end.now) }
 {
     match text {
-        CowStr::Owned(mut text) => {
-            text.push_str(end)?;
-            Ok(text)
-        }
+        CowStr::Owned(text) => with_end(text, end),
         CowStr::Borrowed(text) => {
             let mut ended = String::with_capacity(alloc, text.len() + end.len())?;
             ended.push_str(text)?;
@@ -66,6 +63,15 @@ pub(crate) fn end_text<A: Allocator>(
             Ok(ended)
         }
     }
+}
+
+// A text with its end, which asks for no more room than the end needs.
+fn with_end<A: Allocator>(mut text: String<A>, end: &str) -> Result<String<A>, AllocError>
+    ensures { IfOk result (λ s. string_bytes s ≡ string_bytes text ++ end.now) }
+{
+    text.reserve_exact(end.len())?;
+    text.push_str(end)?;
+    Ok(text)
 }
 
 // The lines of a text wrapped at a width, the last of which has this end.
@@ -85,13 +91,15 @@ fn wrap_line<A: Allocator + Copy>(
         made.push_str(line_break(end))?;
         lines.push_next(&mut made).transpose()?;
     }
-    made.push_str(end)?;
-    Ok(made)
+    with_end(made, end)
 }
 
 // How many bytes the lines of a text wrapped at a width have, with their ends, if each line is full
 // and opens and closes nothing.
-fn room_for_lines(text: &str, width: usize, end: &str) -> usize {
+fn room_for_lines(text: &str, width: usize, end: &str) -> usize
+    ensures most { result ≤ length text.now + length end.now
+        + length text.now * length (line_break end.now) }
+{
     let breaks = text.len() / width.max(1);
     text.len()
         .saturating_add(end.len())
@@ -107,9 +115,8 @@ fn join_lines<A: Allocator>(
     ensures { IfOk result (λ s. string_bytes s
         ≡ join_by (λ t. t) (line_break end.now) (words_of texts.now) ++ end.now) }
 {
-    let mut lines = texts.join(alloc, line_break(end))?;
-    lines.push_str(end)?;
-    Ok(lines)
+    let lines = texts.join(alloc, line_break(end))?;
+    with_end(lines, end)
 }
 
 // What ends each of several lines but the last, which has this end.

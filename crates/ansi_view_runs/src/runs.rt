@@ -21,11 +21,12 @@ use crate::edits::{ColumnEdit, edit_up_to_wrap};
 use crate::ended::{edit_further, end_text};
 use crate::lines::{Line, split_first};
 use crate::stop::{OUT_OF_MEMORY, Stop, write_message};
-use crate::view::{Job, as_decoded, decode, edits_nothing, stays, view_decoded};
+use crate::view::{Job, as_decoded, decode_tested, edits_nothing, stays, view_decoded};
 use crate::words::parse;
 use ansi_io::devices::{ReadFault, Sink, Source, WriteFault};
 use ansi_safe::policy::{Links, Policy, Rest};
 use ansi_safe::safe::sanitize;
+use ansi_safe::utf8::from_utf8;
 use std::alloc::{AllocError, Allocator};
 use std::borrow::CowStr;
 
@@ -67,8 +68,9 @@ fn write_line<A: Allocator + Copy, W: Sink>(
     ensures stopped { IfErr result (StopsWriting (W.failed output.old) (W.failed output.new)
         (W.closed output.old) (W.closed output.new) (W.taken output.new ≡ W.taken output.old)) }
 {
-    let Some(text) = as_decoded(job.view, line.text) else {
-        let text = decode(alloc, job.view, line.text)?;
+    let tested = from_utf8(line.text);
+    let Some(text) = as_decoded(job.view, line.text, tested) else {
+        let text = decode_tested(alloc, job.view, line.text, tested)?;
         return write_text(alloc, job, opening, line, text, read, output);
     };
     if !edits_nothing(job) || !opening.is_empty() {
@@ -132,10 +134,7 @@ fn write_edited<A: Allocator + Copy, W: Sink>(
     ensures stopped { IfErr result (StopsWriting (W.failed output.old) (W.failed output.new)
         (W.closed output.old) (W.closed output.new) (W.taken output.new ≡ W.taken output.old)) }
 {
-    if edits.is_empty() {
-        return write_at_once(alloc, text, end, read, output);
-    }
-    let (edited, left) = edit_up_to_wrap(alloc, edits, text.as_str())?;
+    let (edited, left) = edit_up_to_wrap(alloc, edits, text)?;
     if left.is_empty() {
         return write_at_once(alloc, edited, end, read, output);
     }

@@ -2,6 +2,8 @@
 ghost use Rattle.std.specs.Prelude.{◌≡◌, ◌==◌, ◌++◌, [], IfOk, IfSome, IsTrue, OnOk, length, string_bytes};
 ghost use Rattle.std.specs.Prelude.{◌&&◌, true, if◌then◌else◌};
 ghost use Rattle.std.specs.Cow.{cow_str_bytes};
+ghost use Rattle.std.specs.Str.{IsUtf8};
+ghost use Rattle.std.specs.Str.Lossy.{utf8_lossy};
 ghost use Rattle.ansi_items.specs.Plain.{plain};
 ghost use Rattle.ansi_style.specs.States.{rendition_of};
 ghost use Rattle.ansi_style.specs.Written.{start};
@@ -19,11 +21,12 @@ use crate::lines::Line;
 use ansi_safe::links::{LONGEST_ENDING, Pen, pen_after};
 use ansi_safe::policy::{Links, Policy};
 use ansi_safe::safe::{ending_if_safe, pen_if_safe, push_cleaned};
-use ansi_safe::utf8::from_utf8;
+use ansi_safe::utf8::{Utf8Error, from_utf8};
 use ansi_slice::slice::strip_in;
 use ansi_style::styles;
 use std::alloc::{AllocError, Allocator};
 use std::borrow::CowStr;
+use std::str;
 
 /// How a run makes its input safe.
 #[derive(Clone, Copy, Debug, PartialEq, Eq)]
@@ -81,7 +84,7 @@ pub(crate) fn view_decoded<A: Allocator + Copy>(
         text.push_str(line.end)?;
         return Ok(text);
     }
-    edit_line(alloc, job.edits.as_slice(), text.as_str(), line.end)
+    edit_line(alloc, job.edits.as_slice(), CowStr::Owned(text), line.end)
 }
 
 // The text of a line whose bytes are decoded, made safe. `opening` is as for `view_line`.
@@ -224,21 +227,6 @@ fn clean<A: Allocator>(alloc: A, policy: Policy, text: &str) -> Result<String<A>
     Ok(made)
 }
 
-/// The text of bytes, if decoding leaves these bytes: they are UTF-8, and the view isn't plain.
-/// `None` says nothing. `write_line` calls it before `decode`, which returns a `CowStr`, since most lines
-/// can be borrowed.
-pub(crate) fn as_decoded(view: View, bytes: &[u8]) -> Option<&str>
-    ensures { IfSome result (λ text. text.now ≡ decoded view bytes.now) }
-{
-    if view.plain {
-        return None;
-    }
-    match from_utf8(bytes) {
-        Ok(text) => Some(text),
-        Err(_) => None,
-    }
-}
-
 /// The text of bytes, without its sequences if the view is plain. Bytes that aren't UTF-8 become
 /// U+FFFD. It borrows from bytes that are UTF-8 if nothing is stripped. `Err` means out of memory.
 pub(crate) fn decode<'t, A: Allocator + Copy>(
@@ -248,12 +236,68 @@ pub(crate) fn decode<'t, A: Allocator + Copy>(
 ) -> Result<CowStr<'t, A>, AllocError>
     ensures { IfOk result (λ c. cow_str_bytes c ≡ decoded view bytes.now) }
 {
-    match from_utf8(bytes) {
+    decode_tested(alloc, view, bytes, from_utf8(bytes))
+}
+
+/// The text of bytes that `from_utf8` has tested, with what it returned, if decoding leaves these
+/// bytes: they are UTF-8, and the view isn't plain. `None` says nothing. `write_line` calls it before
+/// `decode_tested`, which returns a `CowStr`, since most lines can be borrowed.
+pub(crate) fn as_decoded<'t>(
+    view: View,
+    bytes: &[u8],
+    tested: Result<&'t str, Utf8Error>,
+) -> Option<&'t str>
+    requires { IfOk tested (λ text. (text.now ≡ bytes.now) × IsUtf8 bytes.now) }
+    ensures { IfSome result (λ text. text.now ≡ decoded view bytes.now) }
+{
+    if view.plain {
+        return None;
+    }
+    match tested {
+        Ok(text) => Some(text),
+        Err(_) => None,
+    }
+}
+
+/// Like `decode`, of bytes that `from_utf8` has tested, with what it returned.
+pub(crate) fn decode_tested<'t, A: Allocator + Copy>(
+    alloc: A,
+    view: View,
+    bytes: &'t [u8],
+    tested: Result<&'t str, Utf8Error>,
+) -> Result<CowStr<'t, A>, AllocError>
+    requires { IfOk tested (λ text. (text.now ≡ bytes.now) × IsUtf8 bytes.now) }
+    ensures { IfOk result (λ c. cow_str_bytes c ≡ decoded view bytes.now) }
+{
+    match tested {
         Ok(text) => strip_if_plain(alloc, view, CowStr::Borrowed(text)),
         Err(_) => {
-            let text = String::from_utf8_lossy(alloc, bytes)?;
+            let text = replace_invalid(alloc, bytes)?;
             strip_if_plain(alloc, view, CowStr::Owned(text))
         }
+    }
+}
+
+// The text of bytes, with U+FFFD for each invalid sequence. std's `from_utf8_lossy` tests first
+// whether the bytes are UTF-8.
+fn replace_invalid<A: Allocator>(alloc: A, bytes: &[u8]) -> Result<String<A>, AllocError>
+    ensures { IfOk result (λ s. string_bytes s ≡ utf8_lossy bytes.now) }
+{
+    let mut text = String::new(alloc);
+    let mut rest = bytes;
+    'pieces: loop {
+        let error = match str::from_utf8(rest) {
+            Ok(valid) => {
+                text.push_str(valid)?;
+                return Ok(text);
+            }
+            Err(error) => error,
+        };
+        let valid = error.valid_up_to();
+        let invalid = error.error_len().unwrap_or(rest.len() - valid);
+        text.push_str(unsafe { str::from_utf8_unchecked(&rest[..valid]) })?;
+        text.push_str("\u{FFFD}")?;
+        rest = &rest[valid + invalid..];
     }
 }
 
@@ -271,11 +315,19 @@ fn strip_if_plain<'t, A: Allocator + Copy>(
     }
     match text {
         CowStr::Borrowed(text) => strip_in(alloc, text),
-        CowStr::Owned(text) => {
-            let stripped = strip_in(alloc, text.as_str())?;
-            Ok(CowStr::Owned(stripped.into_owned(alloc)?))
-        }
+        CowStr::Owned(text) => Ok(CowStr::Owned(strip_owned(alloc, text)?)),
     }
+}
+
+// A text without its sequences. A text without any is passed on.
+fn strip_owned<A: Allocator + Copy>(alloc: A, text: String<A>) -> Result<String<A>, AllocError>
+    ensures { IfOk result (λ s. string_bytes s ≡ plain (string_bytes text)) }
+{
+    let stripped = match strip_in(alloc, text.as_str())? {
+        CowStr::Borrowed(bare) if bare == text.as_str() => None,
+        stripped => Some(stripped.into_owned(alloc)?),
+    };
+    Ok(stripped.unwrap_or(text))
 }
 
 // What opens the style and the link of a pen.

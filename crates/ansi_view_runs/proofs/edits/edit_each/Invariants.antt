@@ -1,4 +1,4 @@
-use Rattle.std.proofs.Common.{◌≡◌, drop, take}
+use Rattle.std.proofs.Common.{◌≡◌, take}
 use Rattle.std.specs.List.{flat_map}
 use Rattle.ansi_lines_runs.specs.Runs.{words_of}
 use Rattle.ansi_view_runs.specs.Edits.{change_of, changed}
