@@ -1,5 +1,5 @@
 -- Printable ASCII in the tables of the rules on clusters, and its columns.
-use Rattle.std.proofs.Common.{◌≡◌, ℕ, ◌+◌, ◌<◌, Bool, true, false, not, ◌||◌, ◌==◌, List, [], ◌∷◌, length, unwrap_or, IsTrue, eqb-true, refl, sym, ap, ◌∙◌, arith}
+use Rattle.std.proofs.Common.{◌≡◌, ℕ, ◌+◌, ◌<◌, Bool, true, false, not, ◌||◌, ◌==◌, List, [], ◌∷◌, length, unwrap_or, IsTrue, eqb-true, inl, refl, sym, ap, ◌∙◌, arith}
 use Rattle.std.specs.Int.{is_in_range}
 use Rattle.std.specs.List.{All, list_all}
 use Rattle.std.proofs.lemmas.Bool.{and_parts}
@@ -23,7 +23,7 @@ use Rattle.ucd_emoji.proofs.Computing.{ucd_emoji}
 use Rattle.unicode_segmentation.specs.Grapheme.{is_grapheme_break, break_by_pair, ends_in_linker, ends_in_pictograph, ends_in_half_flag}
 use Rattle.unicode_width.proofs.Rules.{str_width-printable}
 use Rattle.ansi_columns.specs.Columns.{cluster_width, columns_of, columns}
-use Rattle.ansi_columns.specs.BreakStates.{break_state_of, IsUnnamed}
+use Rattle.ansi_columns.specs.BreakStates.{break_state_of, IsSingle, IsUnnamed}
 use Rattle.ansi_columns.specs.Walks.{clusters_after}
 use Rattle.ansi_columns.specs.declared.break_state.BreakState.{BreakState}
 use Rattle.ansi_columns.proofs.ClusterLemmas.{cluster-begins, cluster-ends, cluster-last, clusters-none}
@@ -63,6 +63,9 @@ IsUnnamed-printable c printable = record {
   conjunct = sym (indic_conjunct_break-printable c printable);
   pictograph = sym (is_extended_pictographic-printable c printable);
 }
+
+pub IsSingle-printable : (c : ℕ) → is_printable c ≡ true → IsSingle c
+IsSingle-printable c printable = (let unnamed = IsUnnamed-printable c printable in record { break = inl unnamed.break; conjunct = unnamed.conjunct; pictograph = unnamed.pictograph })
 
 -- after it, as after nothing
 pub break_state-printable : (c : ℕ) (before : List ℕ) → is_printable c ≡ true → break_state_of [] ≡ break_state_of (c ∷ before)

@@ -12,9 +12,9 @@ use Rattle.ansi_items.specs.Plain.{plain}
 use Rattle.ansi_columns.specs.declared.walks.Walk.{Walk}
 use Rattle.ansi_columns.specs.Columns.{clusters, cluster_width, columns_of, columns, bytes_of}
 use Rattle.ansi_columns.specs.declared.views.View.TheVariants.{Given}
-use Rattle.ansi_columns.specs.Walks.{after, cluster, clusters_from, IsWalk, IsPastAscii, IsPastClusters, has_width}
+use Rattle.ansi_columns.specs.Walks.{after, cluster, clusters_from, IsWalk, IsPastClusters, has_width}
 use Rattle.ansi_columns.specs.Slices.{ended, begun, IsEdge}
-use Rattle.ansi_columns.proofs.PrintableLemmas.{columns-past}
+use Rattle.ansi_columns.proofs.PrintableLemmas.{columns-clusters}
 use Rattle.ansi_columns.proofs.WidthLemmas.{read-bound}
 use Rattle.ansi_columns.proofs.ClusterLawLemmas.{clusters_after-bytes}
 use Rattle.ansi_columns.proofs.ColumnLemmas.{bytes_of-push, columns_of-push, cluster-bytes, clusters_from-end}
@@ -177,8 +177,8 @@ pub has_columns : (t : List ℕ) (here n m : ℕ) {k : ℕ} → columns_of (clus
     → true ≡ nat_lt 0 (columns_of (clusters_from t here))
 has_columns t here n m same first is some = sym (lt-ltb 0 (columns_of (clusters_from t here)) (omega (arith, same, is, some, ap columns_of first, sum_by-cons cluster_width (cluster t n m) (clusters_from t m))))
 
-pub has_columns-past : {t : List ℕ} {w v : Walk} {len : ℕ} → IsWalk t w → IsPastAscii t w len v → 0 < len → true ≡ nat_lt 0 (columns_of (clusters_from t w.position))
-has_columns-past {t} {w} walk past some = sym (lt-ltb 0 (columns_of (clusters_from t w.position)) (omega (arith, columns-past walk past, some)))
+pub has_columns-past : {t : List ℕ} {w v : Walk} {n : ℕ} → IsPastClusters Given t w v n → 0 < n → true ≡ nat_lt 0 (columns_of (clusters_from t w.position))
+has_columns-past {t} {w} past some = sym (lt-ltb 0 (columns_of (clusters_from t w.position)) (omega (arith, columns-clusters past, some)))
 
 pub has_no_columns : (t : List ℕ) (here n : ℕ) → columns_of (clusters_from t here) ≡ columns_of (clusters_from t n) → after t n ≡ [] → false ≡ nat_lt 0 (columns_of (clusters_from t here))
 has_no_columns t here n same none = sym (le-ltb 0 (columns_of (clusters_from t here)) (omega (arith, same, ap columns_of (clusters_from-end t n none))))

@@ -21,7 +21,7 @@ use Rattle.ansi_columns.proofs.ClusterWalkLemmas.{seen_cluster-past, cluster-fir
 
 module _ (view : View) (t : List ℕ) (utf8 : IsUtf8 t) (w : Walk) (walk : IsWalkIn view t w) where
   -- what is seen begins with the next character, if that prints
-  seen_after-printing : (c : ℕ) → IsNext t w c → is_printing c ≡ true → (rest : List ℕ) × (seen_after view t w.position ≡ c ∷ rest)
+  pub seen_after-printing : (c : ℕ) → IsNext t w c → is_printing c ≡ true → (rest : List ℕ) × (seen_after view t w.position ≡ c ∷ rest)
   seen_after-printing c next printing =
       let more = after t (w.position + length (encode_utf8 c)) in
       (seen view more, ap (seen view) (after-past t utf8 w walk c next) ∙ seen-append view (c ∷ []) more ∙ ap (λ x. x ++ seen view more) (seen-one view c ∙ seen-printing view c printing))
@@ -60,7 +60,7 @@ module _ (view : View) (t : List ℕ) (utf8 : IsUtf8 t) (w : Walk) (walk : IsWal
 -- ---- several clusters
 
 -- one more is passed
-clusters-more : {view : View} {t : List ℕ} {from w v : Walk} {n k : ℕ} → IsUtf8 t → IsPastClusters view t from w n → IsPastCluster view t w v k → 0 < k → IsPastClusters view t from v (n + k)
+pub clusters-more : {view : View} {t : List ℕ} {from w v : Walk} {n k : ℕ} → IsUtf8 t → IsPastClusters view t from w n → IsPastCluster view t w v k → 0 < k → IsPastClusters view t from v (n + k)
 clusters-more {view} {t} {from} {w} {v} utf8 so_far step some =
     let front = so_far.clusters in
     let last = seen_cluster view t w.position v.position in

@@ -15,12 +15,15 @@ use Rattle.ansi_items.proofs.SequenceLemmas.{all-run}
 use Rattle.ansi_search.specs.Offsets.{offset_of}
 use Rattle.ansi_search.proofs.SliceLemmas.{length-slice_range}
 use Rattle.ansi_columns.specs.declared.walks.Walk.{Walk}
-use Rattle.ansi_columns.specs.BreakStates.{break_state_of}
+use Rattle.ansi_safe.specs.Safe.{is_printing}
+use Rattle.ansi_columns.specs.BreakStates.{break_state_of, IsSingle}
 use Rattle.ansi_columns.specs.Columns.{cluster_width, columns_of, bytes_of}
 use Rattle.ansi_columns.specs.declared.views.View.{View}
 use Rattle.ansi_columns.specs.Views.{seen_char, seen, seen_len}
-use Rattle.ansi_columns.specs.Walks.{IsRun, IsPrintableFront, IsPastAscii, after, cluster, clusters_after, seen_before, seen_after, seen_cluster, seen_clusters, is_seen_ascii, IsWalkIn, IsNext, IsPrintable, AreClustersIn, IsFittingTo, IsPastClusters, has_width}
-use Rattle.ansi_columns.proofs.AsciiLemmas.{is_printable, printable-below_7F, All-printable_is_ascii, break_state-printable, breaks-before_ascii, width-single}
+use Rattle.ansi_columns.specs.Walks.{IsRun, IsPrintableFront, IsPastAscii, after, cluster, clusters_after, seen_before, seen_after, seen_cluster, seen_clusters, is_seen_ascii, IsWalkIn, IsNext, IsPrintable, AreClustersIn, IsFittingTo, IsPastClusters, IsPastLast, EndsAscii, has_width}
+use Rattle.ansi_columns.proofs.AsciiLemmas.{is_printable, printable-below_7F, All-printable_is_ascii, break_state-printable, breaks-before_ascii, width-single, IsSingle-printable}
+use Rattle.ansi_columns.proofs.UnnamedLemmas.{breaks-single}
+use Rattle.ansi_columns.proofs.OrdinaryLemmas.{seen_after-printing}
 use Rattle.ansi_columns.proofs.ClusterLemmas.{cluster-begins, cluster-ends}
 use Rattle.ansi_columns.proofs.ClusterLawLemmas.{breaks-last}
 use Rattle.ansi_columns.proofs.ColumnLemmas.{IsCountedTo, bytes_of-append}
@@ -55,7 +58,7 @@ advanced-one_on w (suc n) =
     let offset : w.offset + 1 + suc n ≡ w.offset + suc (suc n) = omega arith in
     rw (position, offset) refl
 
--- a walk at the first run after the offset m, in the state after printable ASCII, if a byte of ASCII that is seen begins that run, or none is left
+-- a walk at the first run after the offset m, in the state after printable ASCII
 pub record IsAtNextRun (t : List ℕ) (m : ℕ) (walk : Walk) : Type 0 where
   pub start : ℕ
   pub end : ℕ
@@ -65,7 +68,6 @@ pub record IsAtNextRun (t : List ℕ) (m : ℕ) (walk : Walk) : Type 0 where
   pub run : IsRun (drop m t) start end
   pub none : start ≡ end → start ≡ length (drop m t)
   pub break_state : walk.break_state ≡ break_state_of []
-  pub seen_next : walk.offset < length t → is_seen_ascii (slice_index t walk.offset) ≡ true
 
 module _ (view : View) (t : List ℕ) (utf8 : IsUtf8 t) where
   -- the byte at a walk is its next character
@@ -78,13 +80,29 @@ module _ (view : View) (t : List ℕ) (utf8 : IsUtf8 t) where
       }
 
   -- a character of ASCII is seen next
-  next-seen : (w : Walk) → IsWalkIn view t w → (d e : ℕ) (u : List ℕ) → drop w.offset t ≡ d ∷ u → d < 128 → w.offset < w.run_end → seen_char view d ≡ e ∷ []
-      → (rest : List ℕ) × (seen_after view t w.position ≡ e ∷ rest)
-  next-seen w walk d e u text ascii inside seen_is =
-      let past = after-past t utf8 w walk d (next-ascii w d u text ascii inside) in (
+  next-seen : (w : Walk) → IsWalkIn view t w → (d e : ℕ) → IsNext t w d → seen_char view d ≡ e ∷ [] → (rest : List ℕ) × (seen_after view t w.position ≡ e ∷ rest)
+  next-seen w walk d e next seen_is =
+      let past = after-past t utf8 w walk d next in (
         seen view (after t (w.position + length (encode_utf8 d))),
         ap (seen view) past ∙ seen-append view (d ∷ []) (after t (w.position + length (encode_utf8 d))) ∙ ap (λ x. x ++ seen view (after t (w.position + length (encode_utf8 d)))) (seen-one view d ∙ seen_is),
       )
+
+  -- a cluster that ends in printable ASCII ends before ASCII that is seen
+  pub ends-ascii : (v : Walk) → IsWalkIn view t v → (d : ℕ) → IsNext t v d → is_seen_ascii d ≡ true → (before : List ℕ) (b : ℕ) → is_printable b ≡ true → is_grapheme_break true (b ∷ before) (seen_after view t v.position) ≡ true
+  ends-ascii v is d next second before b first =
+      let ascii = seen-ascii view d second in
+      let then_is = next-seen v is d ascii.0 next ascii.1 in
+      ap (is_grapheme_break true (b ∷ before)) then_is.1 ∙ breaks-before_ascii before b ascii.0 then_is.0 first ascii.2
+
+  -- so it does before a character that prints and that no rule on clusters joins to it
+  pub ends-single : (v : Walk) → IsWalkIn view t v → (d : ℕ) → IsNext t v d → IsSingle d → is_printing d ≡ true → (before : List ℕ) (b : ℕ) → is_printable b ≡ true → is_grapheme_break true (b ∷ before) (seen_after view t v.position) ≡ true
+  ends-single v is d next single printing before b first =
+      let then_is = seen_after-printing view t utf8 v is d next printing in
+      ap (is_grapheme_break true (b ∷ before)) then_is.1 ∙ breaks-single before b d then_is.0 (IsSingle-printable b first) single
+
+  -- and if nothing follows
+  pub ends-none : (v : Walk) → after t v.position ≡ [] → (before : List ℕ) (b : ℕ) → is_grapheme_break true (b ∷ before) (seen_after view t v.position) ≡ true
+  ends-none v none before b = ap (is_grapheme_break true (b ∷ before)) (ap (seen view) none ∙ seen-nil view) ∙ breaks-last b before
 
   -- one byte
   module _ (w : Walk) (walk : IsWalkIn view t w) (b : ℕ) (u : List ℕ) (text : drop w.offset t ≡ b ∷ u) (first : is_printable b ≡ true) (inside : w.offset < w.run_end) where
@@ -106,37 +124,24 @@ module _ (view : View) (t : List ℕ) (utf8 : IsUtf8 t) where
     after_is : seen_after view t w.position ≡ b ∷ seen_after view t (w.position + 1)
     after_is = after-one view t utf8 w.position (w.position + 1) (omega arith) (walk_boundary t utf8 w walk) end b one
 
-    -- a cluster ends after it if ASCII that is seen follows, or nothing
-    breaks-before_walk : (v : Walk) → IsWalkIn view t v → v.position ≡ w.position + 1 → (v.offset < length t → is_seen_ascii (slice_index t v.offset) ≡ true)
-        → is_grapheme_break true (b ∷ seen_before view t w.position) (seen_after view t (w.position + 1)) ≡ true
-    breaks-before_walk v is place seen_next = elim (cases_lt v.offset v.run_end) [
-      | inl some ↦
-          let d = slice_index t v.offset in
-          let second = seen_next (omega (arith, some, is.run.end_boundary.0)) in
-          let ascii = seen-ascii view d second in
-          let then_is = next-seen v is d ascii.0 (drop (suc v.offset) t) (drop-cons t v.offset 0 (omega (arith, some, is.run.end_boundary.0))) (seen_ascii-below d second) some ascii.1 in
-          ap (is_grapheme_break true (b ∷ seen_before view t w.position)) (ap (seen_after view t) (sym place) ∙ then_is.1) ∙ breaks-before_ascii (seen_before view t w.position) b ascii.0 then_is.0 first ascii.2
-      | inr none ↦
-          let over : v.offset ≡ v.run_end = omega (arith, none, is.run.ordered) in
-          ap (is_grapheme_break true (b ∷ seen_before view t w.position)) (ap (seen_after view t) (sym place) ∙ ap (seen view) (after-end t utf8 v is over) ∙ seen-nil view) ∙ breaks-last b (seen_before view t w.position)
-    ]
-
-    cluster-one : (v : Walk) → IsWalkIn view t v → v.position ≡ w.position + 1 → (v.offset < length t → is_seen_ascii (slice_index t v.offset) ≡ true)
-        → seen_clusters view t w.position ≡ (b ∷ []) ∷ seen_clusters view t (w.position + 1)
-    cluster-one v is place seen_next =
+    cluster-one : is_grapheme_break true (b ∷ seen_before view t w.position) (seen_after view t (w.position + 1)) ≡ true → seen_clusters view t w.position ≡ (b ∷ []) ∷ seen_clusters view t (w.position + 1)
+    cluster-one breaks =
         let m = w.position + 1 in
         ap (clusters_after (seen_before view t w.position)) after_is ∙ cluster-begins (seen_before view t w.position) b (seen_after view t m)
-        ∙ cluster-ends (b ∷ []) (b ∷ seen_before view t w.position) (seen_after view t m) (breaks-before_walk v is place seen_next)
+        ∙ cluster-ends (b ∷ []) (b ∷ seen_before view t w.position) (seen_after view t m) breaks
         ∙ ap (λ x. (b ∷ []) ∷ clusters_after x (seen_after view t m)) (sym before_is)
 
     -- it is the last of its run
-    last-one : (v : Walk) → w.offset + 1 ≡ w.run_end → v.position ≡ w.position + 1 → IsAtNextRun t w.run_end v → IsWalkIn view t v × (seen_clusters view t w.position ≡ (b ∷ []) ∷ seen_clusters view t (w.position + 1))
-    last-one v last place next_run =
+    last-walk : (v : Walk) → w.offset + 1 ≡ w.run_end → v.position ≡ w.position + 1 → IsAtNextRun t w.run_end v → IsWalkIn view t v
+    last-walk v last place next_run =
         let past : w.run_end ≡ w.offset + length (encode_utf8 b) = omega (arith, last, size) in
         let at = subst (λ m. IsAtNextRun t m v) past next_run in
-        let is = walk-over t utf8 w walk b next view v at.start at.end (place ∙ ap (λ n. w.position + n) (sym size)) at.offset at.run_end at.start_is at.run at.none
-        (at.break_state ∙ break_state-printable b (seen_before view t w.position) first ∙ ap break_state_of (sym before_is) ∙ ap (λ n. break_state_of (seen_before view t n)) (sym place)) in
-        (is, cluster-one v is place at.seen_next)
+        walk-over t utf8 w walk b next view v at.start at.end (place ∙ ap (λ n. w.position + n) (sym size)) at.offset at.run_end at.start_is at.run at.none
+        (at.break_state ∙ break_state-printable b (seen_before view t w.position) first ∙ ap break_state_of (sym before_is) ∙ ap (λ n. break_state_of (seen_before view t n)) (sym place))
+
+    last-cluster : (v : Walk) → IsWalkIn view t v → v.position ≡ w.position + 1 → EndsAscii t v → seen_clusters view t w.position ≡ (b ∷ []) ∷ seen_clusters view t (w.position + 1)
+    last-cluster v is place ends =
+        cluster-one (ap (λ n. is_grapheme_break true (b ∷ seen_before view t w.position) (seen_after view t n)) (sym place) ∙ ends view is (seen_before view t w.position) b first)
 
   -- one byte, and another one after it
   module _ (w : Walk) (walk : IsWalkIn view t w) (b d : ℕ) (u : List ℕ) (text : drop w.offset t ≡ b ∷ d ∷ u) (first : is_printable b ≡ true) (second : is_seen_ascii d ≡ true) (inside : w.offset + 1 < w.run_end) where
@@ -155,8 +160,8 @@ module _ (view : View) (t : List ℕ) (utf8 : IsUtf8 t) where
 
     cluster-one_on : seen_clusters view t w.position ≡ (b ∷ []) ∷ seen_clusters view t (w.position + 1)
     cluster-one_on =
-        let here : slice_index t (w.offset + 1) ≡ d = sym (get_or-drop w.offset t 1 0) ∙ ap (λ x. slice_index x 1) text in
-        cluster-one w walk b (d ∷ u) text first room (one_on w) walk-one_on refl (λ _. ap is_seen_ascii here ∙ second)
+        let after_it = next-ascii (one_on w) d u rest_text (seen_ascii-below d second) (omega (arith, inside)) in
+        cluster-one w walk b (d ∷ u) text first room (ends-ascii (one_on w) walk-one_on d after_it second (seen_before view t w.position) b first)
 
   first-ascii : (n d : ℕ) (u : List ℕ) → list_all is_printable (take n (d ∷ u)) ≡ true → is_seen_ascii (slice_index (d ∷ u) n) ≡ true → is_seen_ascii d ≡ true
   first-ascii zero d u all last = last
@@ -306,9 +311,9 @@ advanced-place : (w : Walk) (n : ℕ) → ((advanced w n).position ≡ w.positio
 advanced-place w zero = (omega arith, omega arith, refl)
 advanced-place w (suc n) = (refl, refl, refl)
 
--- each of its bytes is a cluster, and the walk after it is at the next run
+-- the walk after it is at the next run, and each of its bytes is a cluster if one ends there
 pub run-passed : (view : View) (t : List ℕ) (w v : Walk) (n : ℕ) → IsUtf8 t → IsWalkIn view t w → w.offset + suc n ≡ w.run_end → list_all is_printable (take (suc n) (drop w.offset t)) ≡ true → v.position ≡ w.position + suc n → IsAtNextRun t w.run_end v
-    → IsWalkIn view t v × AreClustersIn view t w.position (take (suc n) (drop w.offset t))
+    → IsWalkIn view t v × (EndsAscii t v → AreClustersIn view t w.position (take (suc n) (drop w.offset t))) × IsPastLast view t w v
 run-passed view t w v n utf8 walk whole all place next_run =
     let x = drop w.offset t in
     let inside : suc n ≤ w.run_end - w.offset = omega (arith, whole) in
@@ -317,15 +322,32 @@ run-passed view t w v n utf8 walk whole all place next_run =
     let here = advanced w n in
     let at = advanced-place w n in
     let b = slice_index t (w.offset + n) in
-    let text : drop here.offset t ≡ b ∷ drop (suc (w.offset + n)) t = ap (λ i. drop i t) at.1 ∙ drop-cons t (w.offset + n) 0 room in
-    let last = last-one view t utf8 here got.0 b (drop (suc (w.offset + n)) t) text (printable-at (suc n) n walk inside all (omega arith)) (omega (arith, at.1, at.2, whole))
-    v (omega (arith, at.1, at.2, whole)) (omega (arith, at.0, place)) (subst (λ m. IsAtNextRun t m v) (sym at.2) next_run) in
-    let size : length (take n x) ≡ n = length-take-le n x (omega (arith, room, length-drop w.offset t)) in
-    let end : here.position ≡ w.position + length (take n x) = omega (arith, at.0, size) in
+    let onward = drop (suc (w.offset + n)) t in
+    let text : drop here.offset t ≡ b ∷ onward = ap (λ i. drop i t) at.1 ∙ drop-cons t (w.offset + n) 0 room in
+    let printing = printable-at (suc n) n walk inside all (omega arith) in
+    let before_end : here.offset < here.run_end = omega (arith, at.1, at.2, whole) in
+    let next_place : v.position ≡ here.position + 1 = omega (arith, at.0, place) in
+    let last = last-walk view t utf8 here got.0 b onward text printing before_end v (omega (arith, at.1, at.2, whole)) next_place (subst (λ m. IsAtNextRun t m v) (sym at.2) next_run) in
+    let size_of : length (take n x) ≡ n = length-take-le n x (omega (arith, room, length-drop w.offset t)) in
+    let end : here.position ≡ w.position + length (take n x) = omega (arith, at.0, size_of) in
     let more : take n x ++ b ∷ [] ≡ take (suc n) x = ap (λ c. take n x ++ c ∷ []) (sym (get_or-drop w.offset t n 0)) ∙ sym (take-suc x n 0 (omega (arith, room, length-drop w.offset t))) in (
-      last.0,
-      subst (AreClustersIn view t w.position) more (AreClustersIn-push view t w.position (take n x) b (subst (AreClustersIn view t w.position) (slice_range-take t w.offset n) got.1)
-          (subst (λ m. seen_clusters view t m ≡ (b ∷ []) ∷ seen_clusters view t (m + 1)) end last.1)),
+      last,
+      λ ends.
+          subst (AreClustersIn view t w.position) more (AreClustersIn-push view t w.position (take n x) b (subst (AreClustersIn view t w.position) (slice_range-take t w.offset n) got.1)
+          (subst (λ m. seen_clusters view t m ≡ (b ∷ []) ∷ seen_clusters view t (m + 1)) end (last-cluster view t utf8 here got.0 b onward text printing before_end v last next_place ends))),
+      λ from position offset.
+          (let same : from.position ≡ here.position = omega (arith, position, at.0, whole) in
+          let same_offset : from.offset ≡ w.offset + n = omega (arith, offset, whole) in
+          let byte : slice_index t from.offset ≡ b = ap (slice_index t) same_offset in
+          let one_byte = size view t utf8 here got.0 b onward text printing before_end in
+          record {
+            within = omega (arith, same_offset, room);
+            first = record {
+              walk = last;
+              one = ap₂ (seen_cluster view t) same next_place ∙ one view t utf8 here got.0 b onward text printing before_end ∙ ap (λ c. c ∷ []) (sym byte);
+              size = omega (arith, same, next_place, ap (λ c. length (encode_utf8 c)) byte, one_byte);
+            };
+          }),
     )
 
 -- the position of its last byte
@@ -335,25 +357,34 @@ run-within view t w n utf8 walk whole all =
     omega (arith, got.0.within, (advanced-place w n).0)
 
 run-past : {any : View} (t : List ℕ) (w v : Walk) (n : ℕ) → IsUtf8 t → IsWalkIn any t w → w.offset + suc n ≡ w.run_end → list_all is_printable (take (suc n) (drop w.offset t)) ≡ true → v.position ≡ w.position + suc n → IsAtNextRun t w.run_end v
-    → IsPastAscii t w (suc n) v
-run-past {any} t w v n utf8 walk whole all place next_run =
+    → EndsAscii t v → IsPastAscii t w (suc n) v
+run-past {any} t w v n utf8 walk whole all place next_run ends =
     let front : IsPrintableFront t w (suc n) = record { within = omega (arith, whole); bytes = ap (list_all is_printable) (slice_range-take t w.offset (suc n)) ∙ all } in
     record {
       front = front;
       walk = λ view is. (run-passed view t w v n utf8 is whole all place next_run).0;
       position = place;
       clusters = λ view. subst (AreClustersIn view t w.position) (sym (slice_range-take t w.offset (suc n)))
-          (run-passed view t (record w { break_state = break_state_of (seen_before view t w.position) }) v n utf8 (seeing view t utf8 w walk) whole all place next_run).1;
+          ((run-passed view t (record w { break_state = break_state_of (seen_before view t w.position) }) v n utf8 (seeing view t utf8 w walk) whole all place next_run).1 ends);
       seen = λ view. seen_len-printable view t w v (suc n) utf8 walk (run-passed any t w v n utf8 walk whole all place next_run).0 place front;
     }
 
 pub past-run : {any : View} (t : List ℕ) (w v : Walk) → IsUtf8 t → IsWalkIn any t w → w.offset < w.run_end → list_all is_printable (slice_range t w.offset w.run_end) ≡ true → v.position ≡ w.position + (w.run_end - w.offset) → IsAtNextRun t w.run_end v
-    → IsPastAscii t w (w.run_end - w.offset) v
-past-run t w v utf8 walk some all place next_run =
+    → EndsAscii t v → IsPastAscii t w (w.run_end - w.offset) v
+past-run t w v utf8 walk some all place next_run ends =
     let n = w.run_end - w.offset - 1 in
     let more : suc n ≡ w.run_end - w.offset = omega (arith, some) in
     subst (λ k. IsPastAscii t w k v) more
-    (run-past t w v n utf8 walk (omega (arith, some)) (ap (λ k. list_all is_printable (take k (drop w.offset t))) more ∙ all) (omega (arith, place, more)) next_run)
+    (run-past t w v n utf8 walk (omega (arith, some)) (ap (λ k. list_all is_printable (take k (drop w.offset t))) more ∙ all) (omega (arith, place, more)) next_run ends)
+
+-- the walk at the next run is after the last byte
+pub next-run : (view : View) (t : List ℕ) (w v : Walk) → IsUtf8 t → IsWalkIn view t w → w.offset < w.run_end → list_all is_printable (slice_range t w.offset w.run_end) ≡ true → v.position ≡ w.position + (w.run_end - w.offset) → IsAtNextRun t w.run_end v
+    → IsWalkIn view t v × IsPastLast view t w v
+next-run view t w v utf8 walk some all place next_run =
+    let n = w.run_end - w.offset - 1 in
+    let more : suc n ≡ w.run_end - w.offset = omega (arith, some) in
+    let got = run-passed view t w v n utf8 walk (omega (arith, some)) (ap (λ k. list_all is_printable (take k (drop w.offset t))) more ∙ all) (omega (arith, place, more)) next_run in
+    (got.0, got.2)
 
 -- ---- the columns that are passed with them
 

@@ -93,6 +93,25 @@ IsPastCluster view t from later width =
     × (width ≡ cluster_width (seen_cluster view t from.position later.position))
     × (width ≤ 2 * (later.position - from.position))
 
+-- `later` is the walk after the first character that is seen, which is c
+pub record IsPastFirst (view : View) (t : List ℕ) (from : Walk) (c : ℕ) (later : Walk) : Type 0 where
+  pub walk : IsWalkIn view t later
+  pub one : seen_cluster view t from.position later.position ≡ c ∷ []
+  pub size : from.position + length (encode_utf8 c) ≤ later.position
+
+-- `later` is the walk after the next byte, which is a character of ASCII and the first that is seen
+pub record IsPastByte (view : View) (t : List ℕ) (from later : Walk) : Type 0 where
+  pub within : from.offset < length t
+  pub first : IsPastFirst view t from (slice_index t from.offset) later
+
+-- `later` is such a walk for each walk at the last byte of the run
+abbrev pub IsPastLast : View → List ℕ → Walk → Walk → Type 0
+IsPastLast view t run later = (from : Walk) → from.position + 1 ≡ run.position + (run.run_end - run.offset) → from.offset + 1 ≡ run.run_end → IsPastByte view t from later
+
+-- a cluster that ends in printable ASCII ends at the walk, whatever is before it
+abbrev pub EndsAscii : List ℕ → Walk → Type 0
+EndsAscii t walk = (view : View) → IsWalkIn view t walk → (before : List ℕ) (b : ℕ) → IsTrue (is_printable_byte b) → is_grapheme_break true (b ∷ before) (seen_after view t walk.position) ≡ true
+
 -- the cluster has columns
 abbrev pub has_width : List ℕ → Bool
 has_width cluster = nat_lt 0 (cluster_width cluster)

@@ -32,7 +32,7 @@ pub(crate) fn fitting_front(text: &str, width: usize, view: View) -> Front
     let mut walk = Walk::start(text);
     let mut left = width;
     'clusters: loop {
-        let (later, more) = walk.past_singles(text, left);
+        let (later, more) = walk.past_singles(text, left, view);
         if more > 0 {
             left -= more;
             walk = later;

@@ -31,8 +31,43 @@ pub(crate) struct PlainFront {
 }
 
 /// The length of the longest text that is looked at. A search for the next sequence of a longer one
-/// could read far past the width, and `widths::width` would read much of it twice.
-pub(crate) const LONGEST: usize = 512;
+/// could read far past the width.
+const LONGEST: usize = 512;
+
+/// Whether a text is short and ASCII. Another one isn't looked at, so that it isn't read in vain.
+pub(crate) fn is_short_ascii(text: &str) -> bool {
+    text.len() <= LONGEST && is_ascii(text.as_bytes())
+}
+
+/// Whether the bytes are ASCII, read 16 or 8 at a time. The last ones may overlap those before.
+#[inline(always)]
+fn is_ascii(bytes: &[u8]) -> bool {
+    match bytes.len() {
+        0..=7 => bytes.iter().all(|b| *b < 0x80),
+        8..=15 => is_ascii_8(bytes) && is_ascii_8(&bytes[bytes.len() - 8..]),
+        _ => { bytes.chunks_exact(16).all(is_ascii_16) && is_ascii_16(&bytes[bytes.len() - 16..]) }
+    }
+}
+
+/// Whether there are 8 bytes at the front, and they are ASCII.
+#[inline(always)]
+fn is_ascii_8(bytes: &[u8]) -> bool {
+    match bytes.first_chunk::<8>() {
+        Some(front) => u64::from_le_bytes(*front) & 0x8080_8080_8080_8080 == 0,
+        None => false,
+    }
+}
+
+/// Whether there are 16 bytes at the front, and they are ASCII.
+#[inline(always)]
+fn is_ascii_16(bytes: &[u8]) -> bool {
+    match bytes.first_chunk::<16>() {
+        Some(front) => {
+            u128::from_le_bytes(*front) & 0x8080_8080_8080_8080_8080_8080_8080_8080 == 0
+        }
+        None => false,
+    }
+}
 
 /// The front of a text of a cell, if that is printable ASCII and select graphic renditions alone.
 /// `None` says nothing.
@@ -74,7 +109,7 @@ fn plain_runs(text: &str, width: usize) -> Option<PlainFront>
         (IsPlainCell text.now width f.left (rendition_of f.style) f.last)
         (IsAtRun text.now width f.left (rendition_of f.style))) }
 {
-    if LONGEST < text.len() {
+    if !is_short_ascii(text) {
         return None;
     }
     let mut style = styles::plain_style();

@@ -188,7 +188,7 @@ fn edge_after(text: &str, from: Walk, columns: usize) -> Edge
     let mut walk = from;
     let mut left = columns;
     'clusters: while left > 0 {
-        let (later, more) = walk.past_singles(text, left);
+        let (later, more) = walk.past_singles(text, left, View::Given);
         if more > 0 {
             walk = later;
             left -= more;
@@ -221,7 +221,7 @@ fn has_column(text: &str, from: Walk) -> bool
     requires { IsWalk text.now from }
     ensures { result ≡ nat_lt 0 (columns_of (clusters_from text.now from.position)) }
 {
-    if 0 < from.past_ascii(text, 1).1 {
+    if 0 < from.past_singles(text, 2, View::Given).1 {
         return true;
     }
     let mut walk = from;

@@ -1,6 +1,6 @@
 //! A walk over the clusters of a plain text, and the width of each cluster.
 ghost use Rattle.std.specs.Prelude.{◌≡◌, ◌+◌, ◌*◌, ◌-◌, ◌<◌, ◌≤◌, [], ◌∷◌, length, encode_utf8};
-ghost use Rattle.std.specs.Prelude.{ℕ, List, ◌++◌, slice_range, MatchOption, IfSome, IsTrue};
+ghost use Rattle.std.specs.Prelude.{ℕ, List, ◌++◌, slice_range, MatchOption, IfSome, IsSome, IsTrue};
 ghost use Rattle.std.specs.List.{list_all};
 ghost use Rattle.ansi_search.specs.Offsets.{offset_of};
 ghost use Rattle.ansi_safe.specs.Safe.{is_printable_byte};
@@ -11,6 +11,7 @@ ghost use Rattle.ansi_columns.specs.Views.{seen_len};
 ghost use Rattle.ansi_columns.specs.Walks.{before, after, seen_before, seen_after, seen_cluster};
 ghost use Rattle.ansi_columns.specs.Walks.{IsRun, IsWalkIn, IsWalk, IsAnyWalk, IsNext, IsPastCluster, IsPastClusters};
 ghost use Rattle.ansi_columns.specs.Walks.{IsSeenNext, IsPrintable, IsPrintableFront, AreClustersIn, IsPastAscii, is_seen_ascii};
+ghost use Rattle.ansi_columns.specs.Walks.{IsPastFirst, IsPastByte, IsPastLast, EndsAscii};
 
 use crate::break_state::{BreakState, is_single};
 use crate::from_end;
@@ -70,19 +71,62 @@ impl Walk {
     {
         let (start, first) = self.next_seen(text, view);
         let first = first?;
-        let mut walk = start.past(text, first);
+        Some(self.cluster_from(text, first, start.past(text, first), view))
+    }
+
+    /// The same, if `last` may be the walk after the first character of the cluster, a byte of
+    /// printable ASCII.
+    #[inline(always)]
+    pub(crate) fn next_cluster_from(
+        self,
+        text: &str,
+        last: Option<Walk>,
+        view: View,
+    ) -> Option<(Walk, usize)>
+        requires walk { IsWalkIn view text.now self }
+        requires last { IfSome last (IsPastByte view text.now self) }
+        ensures { MatchOption result (seen_after view text.now self.position ≡ []) (λ (walk, width).
+            IsPastCluster view text.now self walk width) }
+    {
+        match last {
+            Some(last) => Some(self.cluster_from_byte(text, last, view)),
+            None => self.next_cluster(text, view),
+        }
+    }
+
+    /// The walk after the next cluster, and its columns. The cluster begins with a byte of printable
+    /// ASCII, and `last` is the walk after that byte.
+    #[inline(never)]
+    fn cluster_from_byte(self, text: &str, last: Walk, view: View) -> (Walk, usize)
+        requires walk { IsWalkIn view text.now self }
+        requires last { IsPastByte view text.now self last }
+        ensures { IsPastCluster view text.now self result.0 result.1 }
+    {
+        let first = char::from(text.as_bytes()[self.offset]);
+        self.cluster_from(text, first, last, view)
+    }
+
+    /// The walk after the next cluster that is seen, and its columns. `after_first` is the walk after
+    /// the first character of it.
+    #[inline(always)]
+    fn cluster_from(self, text: &str, first: char, after_first: Walk, view: View) -> (Walk, usize)
+        requires walk { IsWalkIn view text.now self }
+        requires first { IsPastFirst view text.now self first after_first }
+        ensures { IsPastCluster view text.now self result.0 result.1 }
+    {
+        let mut walk = after_first;
         'cluster: while let (here, Some(next)) = walk.next_seen(text, view) {
             if here.break_state.ends_before(next) {
                 break;
             }
             walk = here.past(text, next);
         }
-        let width = if walk.position == start.position + first.len_utf8() {
+        let width = if walk.position == after_first.position {
             char_width(first)
         } else {
             self.width_up_to(text, &walk, view)
         };
-        Some((walk, width))
+        (walk, width)
     }
 
     /// The walk after the next character and the columns of that character, if it and the one after
@@ -115,23 +159,41 @@ impl Walk {
         Some((walk, char_width(first)))
     }
 
-    /// The walk after characters that come next, each of which is a cluster by itself, and their
-    /// columns, at most `most`. They are printable ASCII, ordinary characters or Hangul syllables.
-    /// There may be none.
+    /// The walk after clusters that come next, and their columns, at most `most`. Most of them are one
+    /// character: printable ASCII, an ordinary one or a Hangul syllable. There may be none.
     #[inline(always)]
-    pub(crate) fn past_singles(self, text: &str, most: usize) -> (Walk, usize)
-        requires { IsAnyWalk text.now self }
-        ensures past { (view : View) → IsWalkIn view text.now self →
-            IsPastClusters view text.now self result.0 result.1 }
+    pub(crate) fn past_singles(self, text: &str, most: usize, view: View) -> (Walk, usize)
+        requires { IsWalkIn view text.now self }
+        ensures past { IsPastClusters view text.now self result.0 result.1 }
         ensures most { result.1 ≤ most }
     {
         let run = &text.as_bytes()[self.offset..self.run_end];
         match run {
-            [0x20..=0x7E] | [0x20..=0x7E, 0..=0x7F, ..] => self.past_ascii(text, most),
+            [0x20..=0x7E] | [0x20..=0x7E, 0..=0x7F, ..] => {
+                self.past_ascii_clusters(text, most, view)
+            }
             [0x20..=0x7E, next @ ..] if !may_begin_single(next) => (self, 0),
             _ if may_begin_single(run) => self.past_letters(text, most),
             _ => (self, 0),
         }
+    }
+
+    /// The same for the printable ASCII that comes next in the run. If what joins its last byte
+    /// follows after sequences, that cluster is passed too.
+    #[inline(always)]
+    fn past_ascii_clusters(self, text: &str, most: usize, view: View) -> (Walk, usize)
+        requires { IsWalkIn view text.now self }
+        ensures past { IsPastClusters view text.now self result.0 result.1 }
+        ensures most { result.1 ≤ most }
+    {
+        let (walk, len, last) = self.past_ascii(text, most);
+        if let Some(last) = last {
+            let (next, width) = walk.cluster_from_byte(text, last, view);
+            if 0 < width && width <= most - len {
+                return (next, len + width);
+            }
+        }
+        (walk, len)
     }
 
     /// The walk after the ordinary characters and Hangul syllables that come next in the run, and
@@ -202,48 +264,87 @@ impl Walk {
     /// The walk after the printable ASCII that comes next in the run, at most `most` bytes of it,
     /// and how many bytes those are. Each of them is a cluster of one column.
     ///
-    /// A byte before a character that may join its cluster isn't among them. If all of the run is
-    /// passed, this is the walk at the next run.
+    /// A byte before a character that may join its cluster isn't among them. If sequences precede that
+    /// character, the walk after both is the third result. If all of the run is passed, the first
+    /// result is the walk at the next run.
     #[inline(always)]
-    pub(crate) fn past_ascii(self, text: &str, most: usize) -> (Walk, usize)
+    pub(crate) fn past_ascii(self, text: &str, most: usize) -> (Walk, usize, Option<Walk>)
         requires { IsAnyWalk text.now self }
         ensures past { IsPastAscii text.now self result.1 result.0 }
         ensures most { result.1 ≤ most }
         ensures none { result.1 ≡ 0 → result.0 ≡ self }
+        ensures last { IfSome result.2 (λ last. (view : View) → IsWalkIn view text.now self →
+            IsPastByte view text.now result.0 last) }
+        ensures less { IsSome result.2 → result.1 < most }
     {
         if !matches!(text.as_bytes().get(self.offset), Some(0x20..=0x7E)) {
-            return (self, 0);
+            return (self, 0, None);
         }
         let len = self.printable_front(text, most);
         if 0 < len && len == self.run_end - self.offset {
-            if let Some(walk) = self.past_run(text) {
-                return (walk, len);
-            }
+            return self.past_run(text);
         }
         let len = self.before_ascii(text, len);
-        (self.past_printable(text, len), len)
+        (self.past_printable(text, len), len, None)
     }
 
-    /// The walk after the run, which is printable ASCII, if the text ends there or a byte of ASCII
-    /// that is seen comes next.
-    fn past_run(self, text: &str) -> Option<Walk>
+    /// The same for a run that is printable ASCII.
+    fn past_run(self, text: &str) -> (Walk, usize, Option<Walk>)
         requires walk { IsAnyWalk text.now self }
         requires some { self.offset < self.run_end }
         requires bytes { IsTrue (list_all is_printable_byte
             (slice_range text.now self.offset self.run_end)) }
-        ensures { IfSome result (IsPastAscii text.now self (self.run_end - self.offset)) }
+        ensures past { IsPastAscii text.now self result.1 result.0 }
+        ensures most { result.1 ≤ self.run_end - self.offset }
+        ensures none { result.1 ≡ 0 → result.0 ≡ self }
+        ensures last { IfSome result.2 (λ last. (view : View) → IsWalkIn view text.now self →
+            IsPastByte view text.now result.0 last) }
+        ensures less { IsSome result.2 → result.1 < self.run_end - self.offset }
+    {
+        let len = self.run_end - self.offset;
+        let next = self.next_run(text);
+        if next.ends_ascii(text) {
+            return (next, len, None);
+        }
+        (self.past_printable(text, len - 1), len - 1, Some(next))
+    }
+
+    /// The walk after the run, which is printable ASCII.
+    fn next_run(self, text: &str) -> Walk
+        requires walk { IsAnyWalk text.now self }
+        requires some { self.offset < self.run_end }
+        requires bytes { IsTrue (list_all is_printable_byte
+            (slice_range text.now self.offset self.run_end)) }
+        ensures walk { (view : View) → IsWalkIn view text.now self →
+            IsWalkIn view text.now result }
+        ensures past { EndsAscii text.now result →
+            IsPastAscii text.now self (self.run_end - self.offset) result }
+        ensures last { (view : View) → IsWalkIn view text.now self →
+            IsPastLast view text.now self result }
     {
         let (start, end) = first_run(&text[self.run_end..]);
-        let offset = self.run_end + start;
-        if offset < text.len() && !is_seen_ascii(text.as_bytes()[offset]) {
-            return None;
-        }
-        Some(Walk {
+        Walk {
             position: self.position + (self.run_end - self.offset),
-            offset,
+            offset: self.run_end + start,
             run_end: self.run_end + end,
             break_state: BreakState::start(),
-        })
+        }
+    }
+
+    /// Whether a cluster that ends in printable ASCII ends at the walk, whatever came before. `false`
+    /// says nothing.
+    #[inline]
+    fn ends_ascii(self, text: &str) -> bool
+        requires { IsAnyWalk text.now self }
+        ensures { IsTrue result → EndsAscii text.now self }
+    {
+        let Some(next) = self.next_char(text) else {
+            return true;
+        };
+        if is_tab_or_feed(next) {
+            return true;
+        }
+        is_single(next)
     }
 
     /// How many bytes of printable ASCII come next in the run, at most `most`.
@@ -395,6 +496,14 @@ fn is_seen_ascii(byte: u8) -> bool
     ensures { result ≡ is_seen_ascii byte }
 {
     matches!(byte, 0x20..=0x7E | b'\t' | b'\n')
+}
+
+/// Whether the character is TAB or LF. Something of them is seen in any view.
+#[inline(always)]
+fn is_tab_or_feed(c: char) -> bool
+    ensures { IsTrue result → IsTrue (is_seen_ascii c) }
+{
+    matches!(c, '\t' | '\n')
 }
 
 /// The columns of a cluster of one character.

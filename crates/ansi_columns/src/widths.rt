@@ -4,7 +4,7 @@ ghost use Rattle.ansi_columns.specs.declared.views.View.{View};
 ghost use Rattle.ansi_columns.specs.Columns.{columns};
 ghost use Rattle.ansi_columns.specs.Views.{seen_text};
 
-use crate::plain_cells::{LONGEST, is_printable};
+use crate::plain_cells::{is_printable, is_short_ascii};
 use crate::views::View;
 use crate::walks::Walk;
 use ansi_items::ansitok::{Kind, Scanner};
@@ -19,12 +19,12 @@ pub(crate) fn width(text: &str, view: View) -> usize
     }
 }
 
-/// The columns of a text whose runs are printable ASCII. A long one isn't looked at. `None` says
-/// nothing.
+/// The columns of a text whose runs are printable ASCII. A long one isn't looked at, nor one that
+/// isn't ASCII. `None` says nothing.
 fn printable_width(text: &str) -> Option<usize>
     ensures { IfSome result (λ n. (view : View) → n ≡ columns (seen_text view text.now)) }
 {
-    if LONGEST < text.len() {
+    if !is_short_ascii(text) {
         return None;
     }
     let mut width = 0;
@@ -46,7 +46,7 @@ fn walked_width(text: &str, view: View) -> usize
     let mut walk = Walk::start(text);
     let mut total = 0;
     'clusters: loop {
-        let (later, more) = walk.past_singles(text, usize::MAX);
+        let (later, more) = walk.past_singles(text, usize::MAX, view);
         if more > 0 {
             total += more;
             walk = later;

@@ -10,16 +10,16 @@ clusters-init c = record { walk = c.requires; so_far = edge-begin c.args.text.no
 -- after characters that are clusters by themselves
 
 pub past_singles-more-requires : goal.past_singles-more-requires
-past_singles-more-requires c = (Given, c.clusters.invariant.walk)
+past_singles-more-requires c = c.clusters.invariant.walk
 
 pub clusters-smaller-then-more-gt0 : goal.clusters-smaller-then-more-gt0
 clusters-smaller-then-more-gt0 c =
-    let past = c.past_singles-more.ensures.past Given c.clusters.invariant.walk in
+    let past = c.past_singles-more.ensures.past in
     omega (arith, past.walk.within, past.ordered, past.bound, c.if-more-gt0.true)
 
 pub clusters-preserved-then-more-gt0 : goal.clusters-preserved-then-more-gt0
 clusters-preserved-then-more-gt0 c =
-    let past = c.past_singles-more.ensures.past Given c.clusters.invariant.walk in
+    let past = c.past_singles-more.ensures.past in
     record { walk = past.walk; so_far = edge-clusters past c.past_singles-more.ensures.most c.clusters.invariant.so_far }
 
 -- after another cluster

@@ -2,8 +2,8 @@ use Rattle.std.proofs.Common.{refl, arith}
 use Rattle.ansi_columns.proofs.EdgeLemmas.{no_columns-more, has_columns, has_columns-past, has_no_columns}
 use Rattle.ansi_columns.proofs.slices.has_column.Goals as goal
 
-pub returns-then-past_ascii-gt0 : goal.returns-then-past_ascii-gt0
-returns-then-past_ascii-gt0 c = has_columns-past c.requires c.past_ascii.ensures.past c.if-past_ascii-gt0.true
+pub returns-then-past_singles-gt0 : goal.returns-then-past_singles-gt0
+returns-then-past_singles-gt0 c = has_columns-past c.past_singles.ensures.past c.if-past_singles-gt0.true
 
 pub clusters-init : goal.clusters-init
 clusters-init c = record { walk = c.requires; same = refl }

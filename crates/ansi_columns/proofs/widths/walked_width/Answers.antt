@@ -13,25 +13,25 @@ clusters-init c =
 -- after characters that are clusters by themselves
 
 pub past_singles-more-requires : goal.past_singles-more-requires
-past_singles-more-requires c = (c.args.view, c.clusters.invariant.walk)
+past_singles-more-requires c = c.clusters.invariant.walk
 
 pub overflow_add-total : goal.overflow_add-total
 overflow_add-total c =
     let t = c.args.text.now in
     let inv = c.clusters.invariant in
     let size : length t < 2 ^ 63 = search rules in
-    let past = c.past_singles-more.ensures.past c.args.view inv.walk in
+    let past = c.past_singles-more.ensures.past in
     omega (arith, size, length-plain t, (counted-clusters past inv.counted).bound, past.walk.within)
 
 pub clusters-smaller-then-more-gt0 : goal.clusters-smaller-then-more-gt0
 clusters-smaller-then-more-gt0 c =
-    let past = c.past_singles-more.ensures.past c.args.view c.clusters.invariant.walk in
+    let past = c.past_singles-more.ensures.past in
     omega (arith, past.walk.within, past.ordered, past.bound, c.if-more-gt0.true)
 
 pub clusters-preserved-then-more-gt0 : goal.clusters-preserved-then-more-gt0
 clusters-preserved-then-more-gt0 c =
     let inv = c.clusters.invariant in
-    let past = c.past_singles-more.ensures.past c.args.view inv.walk in
+    let past = c.past_singles-more.ensures.past in
     record { walk = past.walk; counted = counted-clusters past inv.counted }
 
 -- after another cluster

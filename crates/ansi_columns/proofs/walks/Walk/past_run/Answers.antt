@@ -1,42 +1,30 @@
-use Rattle.std.proofs.Common.{◌≡◌, ◌+◌, ◌-◌, ◌^◌, ◌<◌, suc, slice_index, length, take, drop, refl, sym, ◌∙◌, ap, subst, arith, rules}
-use Rattle.std.specs.List.{list_all}
-use Rattle.ansi_items.proofs.PlainLemmas.{length-plain}
-use Rattle.ansi_search.specs.Offsets.{offset_of}
-use Rattle.ansi_columns.specs.Walks.{IsRun, is_seen_ascii}
-use Rattle.ansi_columns.proofs.AsciiLemmas.{is_printable}
-use Rattle.ansi_columns.proofs.PrintableLemmas.{past-run, run-within}
-use Rattle.ansi_columns.proofs.walks.Walk.past_run.Goals.{else-offset-text-via-then-offset-text+else-not-is_seen_ascii, else-offset-text-via-else-offset-text}
+use Rattle.std.proofs.Common.{◌≡◌, ◌+◌, ◌-◌, ◌<◌, arith}
+use Rattle.ansi_columns.specs.Walks.{IsPrintable}
+use Rattle.ansi_columns.proofs.PrintableLemmas.{IsPrintable-front, printable-shorter}
 use Rattle.ansi_columns.proofs.walks.Walk.past_run.Goals as goal
 
-pub overflow_add-result : goal.overflow_add-result
-overflow_add-result c =
-    let t = c.args.text.now in
-    let w = c.args.self in
-    let size : length t < 2 ^ 63 = search rules in
-    let n = w.run_end - w.offset - 1 in
-    let more : suc n ≡ w.run_end - w.offset = omega (arith, c.requires.some) in
-    let within = run-within c.requires.walk.0 t w n c.utf8.text c.requires.walk.1 (omega (arith, c.requires.some)) (ap (λ k. list_all is_printable (take k (drop w.offset t))) more ∙ c.requires.bytes) in
-    omega (arith, size, within, length-plain t)
+pub ends_ascii-requires : goal.ends_ascii-requires
+ends_ascii-requires c = (c.requires.walk.0, c.next_run-next.ensures.walk c.requires.walk.0 c.requires.walk.1)
 
--- the next run begins with a byte of ASCII that is seen, or nothing is left
-pub returns : goal.returns
-returns c =
-    let t = c.args.text.now in
+pub past_printable-requires-clause-ahead : goal.past_printable-requires-clause-ahead
+past_printable-requires-clause-ahead c some =
     let w = c.args.self in
-    let first = c.first_run-start.ensures in
-    let rest : c.range_from.result.now ≡ drop w.run_end t = c.range_from.ensures.value in
-    past-run t w _ c.utf8.text c.requires.walk.1 c.requires.some c.requires.bytes refl (record {
-      start = c.first_run-start.result.0;
-      end = c.first_run-start.result.1;
-      offset = refl;
-      run_end = refl;
-      start_is = first.start ∙ ap (λ x. offset_of x 0) rest;
-      run = subst (λ x. IsRun x c.first_run-start.result.0 c.first_run-start.result.1) rest first.run;
-      none = λ e. first.none e ∙ ap length rest;
-      break_state = c.start.ensures;
-      seen_next = elim c.else-offset-text.branch [
-        | else-offset-text-via-then-offset-text+else-not-is_seen_ascii v ↦ λ _.
-            ap (λ x. is_seen_ascii (slice_index x (w.run_end + c.first_run-start.result.0))) (sym v.as_bytes.ensures.value) ∙ sym v.is_seen_ascii.ensures ∙ v.if-not-is_seen_ascii.false
-        | else-offset-text-via-else-offset-text v ↦ λ less. absurd (omega (arith, less, v.if-offset-text.false))
-      ];
-    })
+    let len = w.run_end - w.offset in
+    printable-shorter len (len - 1) c.requires.walk.1 (omega arith) c.requires.bytes (omega (arith, c.requires.some))
+
+-- all but the last byte
+pub returns-clause-past : goal.returns-clause-past
+returns-clause-past c =
+    let w = c.args.self in
+    let len = w.run_end - w.offset in
+    let past = c.past_printable.ensures in
+    record {
+      front = IsPrintable-front (len - 1) c.requires.walk.1 (λ some. printable-shorter len (len - 1) c.requires.walk.1 (omega arith) c.requires.bytes (omega (arith, c.requires.some)));
+      walk = past.walk;
+      position = past.position;
+      clusters = past.clusters;
+      seen = past.seen;
+    }
+
+pub returns-clause-last : goal.returns-clause-last
+returns-clause-last c view is = c.next_run-next.ensures.last view is c.past_printable.result (omega (arith, c.past_printable.ensures.position, c.requires.some)) (omega (arith, c.past_printable.ensures.offset, c.requires.some))

@@ -7,7 +7,6 @@ use Rattle.ansi_columns.specs.Walks.{after, seen_before, seen_after, seen_cluste
 use Rattle.ansi_columns.proofs.ClusterWalkLemmas.{seen_cluster-past, cluster-first, cluster-more, cluster-stops, cluster-is_last}
 use Rattle.ansi_columns.proofs.ViewLemmas.{seen-nil, before-none, after-none, after-one}
 use Rattle.ansi_columns.proofs.WalkLemmas.{walk_boundary}
-use Rattle.ansi_columns.proofs.walks.Walk.read_cluster.Goals.{in_default-Some+then-ends_before, in_default}
 use Rattle.ansi_columns.proofs.walks.Walk.read_cluster.Goals as goal
 
 -- nothing is seen
@@ -20,107 +19,14 @@ returns-in_err-first c =
     let none : after t start.position ≡ [] = rw c.in_err-first.was at found.next in
     rw c.from_residual.ensures (after-none view t c.utf8.text c.args.self.position start.position found.ordered (walk_boundary t c.utf8.text c.args.self c.requires) (walk_boundary t c.utf8.text start found.walk) found.left_out ∙ ap (seen view) none ∙ seen-nil view)
 
-pub cluster-init : goal.cluster-init
-cluster-init c =
+pub cluster_from-requires-clause-first : goal.cluster_from-requires-clause-first
+cluster_from-requires-clause-first c =
     let t = c.args.text.now in
     let view = c.args.view in
     let n = c.args.self.position in
-    let m = c.past-walk.result.position in
+    let m = c.past.result.position in
     let found = c.next_seen-first.ensures in
     let next : IsSeenNext view t c.next_seen-first.result.0 c.in_ok-first.first = rw c.in_ok-first.was at found.next in
     let begin = walk_boundary t c.utf8.text c.args.self c.requires in
-    let past = seen_cluster-past n m c.utf8.text begin found.ordered found.walk found.left_out next c.past-walk.ensures.position in
-    record {
-      walk = c.past-walk.ensures.walk view found.walk next;
-      so_far = cluster-first view t c.utf8.text n m c.in_ok-first.first past.3 begin past.0 past.2;
-    }
-
-pub cluster-preserved : goal.cluster-preserved
-cluster-preserved c =
-    let t = c.args.text.now in
-    let view = c.args.view in
-    let inv = c.cluster.invariant in
-    let p = c.cluster.walk.position in
-    let here = c.next_seen.result.0 in
-    let found = c.next_seen.ensures in
-    let m = c.past-walk-in_default-Some.result.position in
-    let next : IsSeenNext view t here c.in_default-Some.next = rw c.in_default-Some.is-1 at found.next in
-    let begin = walk_boundary t c.utf8.text c.cluster.walk inv.walk in
-    let past = seen_cluster-past p m c.utf8.text begin found.ordered found.walk found.left_out next c.past-walk-in_default-Some.ensures.position in
-    let state = found.walk.break_state ∙ ap break_state_of (before-none view t c.utf8.text p here.position found.ordered begin (walk_boundary t c.utf8.text here found.walk) found.left_out) in
-    let joins : is_grapheme_break true (seen_before view t p) (c.in_default-Some.next ∷ seen_after view t m) ≡ false
-    = sym (c.ends_before.ensures (seen_before view t p) (seen_after view t m) inv.so_far.some state) ∙ c.if-ends_before.false in
-    record {
-      walk = c.past-walk-in_default-Some.ensures.walk view found.walk next;
-      so_far = cluster-more view t c.utf8.text c.args.self.position p m c.in_default-Some.next (walk_boundary t c.utf8.text c.args.self c.requires) inv.so_far past.3 begin past.0 past.2 joins;
-    }
-
-pub cluster-smaller : goal.cluster-smaller
-cluster-smaller c =
-    let t = c.args.text.now in
-    let view = c.args.view in
-    let found = c.next_seen.ensures in
-    let next : IsSeenNext view t c.next_seen.result.0 c.in_default-Some.next = rw c.in_default-Some.is-1 at found.next in
-    let p = c.cluster.walk.position in
-    let m = c.past-walk-in_default-Some.result.position in
-    let past = seen_cluster-past p m c.utf8.text (walk_boundary t c.utf8.text c.cluster.walk c.cluster.invariant.walk) found.ordered found.walk found.left_out next c.past-walk-in_default-Some.ensures.position in
-    omega (arith, past.3, past.0.0)
-
--- the cluster ends before the next character that is seen, or since none is
-
-pub returns-then-walk-start : goal.returns-then-walk-start
-returns-then-walk-start c =
-    let t = c.args.text.now in
-    let view = c.args.view in
-    let inv = c.cluster.invariant in
-    let walk = c.cluster.walk in
-    let n = c.args.self.position in
-    let p = walk.position in
-    let here = c.next_seen.result.0 in
-    let more = c.next_seen.ensures in
-    let here_begin = walk_boundary t c.utf8.text walk inv.walk in
-    let first : seen_clusters view t n ≡ seen_cluster view t n p ∷ seen_clusters view t p = elim c.match-next_seen.branch [
-      | in_default-Some+then-ends_before w ↦ (
-          let next : IsSeenNext view t here w.in_default-Some.next = rw w.in_default-Some.is-1 at more.next in
-          let m = here.position + length (encode_utf8 w.in_default-Some.next) in
-          let past = seen_cluster-past p m c.utf8.text here_begin more.ordered more.walk more.left_out next refl in
-          let state = more.walk.break_state ∙ ap break_state_of (before-none view t c.utf8.text p here.position more.ordered here_begin (walk_boundary t c.utf8.text here more.walk) more.left_out) in
-          let rest = after-one view t c.utf8.text p m (omega (arith, past.3)) here_begin past.0 w.in_default-Some.next past.2 in
-          cluster-stops inv.so_far (ap (is_grapheme_break true (seen_before view t p)) rest ∙ sym (w.ends_before.ensures (seen_before view t p) (seen_after view t m) inv.so_far.some state) ∙ w.if-ends_before.true))
-      | in_default w ↦ (
-          let is : c.next_seen.result.1 ≡ None = search rules in
-          let none : after t here.position ≡ [] = rw is at more.next in
-          cluster-is_last inv.so_far (after-none view t c.utf8.text p here.position more.ordered here_begin (walk_boundary t c.utf8.text here more.walk) more.left_out ∙ ap (seen view) none ∙ seen-nil view))
-    ] in
-    let start = c.next_seen-first.result.0 in
-    let found = c.next_seen-first.ensures in
-    let begin : IsSeenNext view t start c.in_ok-first.first = rw c.in_ok-first.was at found.next in
-    let place : p ≡ start.position + length (encode_utf8 c.in_ok-first.first) = omega (arith, c.if-walk-start.true, c.len_utf8.ensures.len) in
-    let one = seen_cluster-past n p c.utf8.text (walk_boundary t c.utf8.text c.args.self c.requires) found.ordered found.walk found.left_out begin place in
-    (inv.walk, inv.so_far.ahead, first, c.char_width-width.ensures.value ∙ ap cluster_width (sym one.2), omega (arith, c.char_width-width.ensures.bound, place, found.ordered))
-
-pub returns-else-walk-start : goal.returns-else-walk-start
-returns-else-walk-start c =
-    let t = c.args.text.now in
-    let view = c.args.view in
-    let inv = c.cluster.invariant in
-    let walk = c.cluster.walk in
-    let n = c.args.self.position in
-    let p = walk.position in
-    let here = c.next_seen.result.0 in
-    let more = c.next_seen.ensures in
-    let here_begin = walk_boundary t c.utf8.text walk inv.walk in
-    let first : seen_clusters view t n ≡ seen_cluster view t n p ∷ seen_clusters view t p = elim c.match-next_seen.branch [
-      | in_default-Some+then-ends_before w ↦ (
-          let next : IsSeenNext view t here w.in_default-Some.next = rw w.in_default-Some.is-1 at more.next in
-          let m = here.position + length (encode_utf8 w.in_default-Some.next) in
-          let past = seen_cluster-past p m c.utf8.text here_begin more.ordered more.walk more.left_out next refl in
-          let state = more.walk.break_state ∙ ap break_state_of (before-none view t c.utf8.text p here.position more.ordered here_begin (walk_boundary t c.utf8.text here more.walk) more.left_out) in
-          let rest = after-one view t c.utf8.text p m (omega (arith, past.3)) here_begin past.0 w.in_default-Some.next past.2 in
-          cluster-stops inv.so_far (ap (is_grapheme_break true (seen_before view t p)) rest ∙ sym (w.ends_before.ensures (seen_before view t p) (seen_after view t m) inv.so_far.some state) ∙ w.if-ends_before.true))
-      | in_default w ↦ (
-          let is : c.next_seen.result.1 ≡ None = search rules in
-          let none : after t here.position ≡ [] = rw is at more.next in
-          cluster-is_last inv.so_far (after-none view t c.utf8.text p here.position more.ordered here_begin (walk_boundary t c.utf8.text here more.walk) more.left_out ∙ ap (seen view) none ∙ seen-nil view))
-    ] in
-    (inv.walk, inv.so_far.ahead, first, c.width_up_to-width.ensures.value, c.width_up_to-width.ensures.bound)
+    let past = seen_cluster-past n m c.utf8.text begin found.ordered found.walk found.left_out next c.past.ensures.position in
+    record { walk = c.past.ensures.walk view found.walk next; one = past.2; size = omega (arith, found.ordered, c.past.ensures.position) }

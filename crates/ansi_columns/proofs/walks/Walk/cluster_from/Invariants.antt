@@ -2,7 +2,7 @@ use Rattle.std.proofs.Common.{◌-◌, length}
 use Rattle.ansi_items.specs.Plain.{plain}
 use Rattle.ansi_columns.specs.Walks.{IsWalkIn}
 use Rattle.ansi_columns.proofs.ClusterWalkLemmas.{IsClusterTo}
-use Rattle.ansi_columns.proofs.walks.Walk.read_cluster.Given as goal
+use Rattle.ansi_columns.proofs.walks.Walk.cluster_from.Given as goal
 
 -- the cluster goes on up to here
 abbrev pub invariant-cluster : goal.invariant-cluster
