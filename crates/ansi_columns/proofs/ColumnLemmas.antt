@@ -14,7 +14,7 @@ use Rattle.ansi_columns.specs.declared.views.View.{View}
 use Rattle.ansi_columns.specs.declared.views.View.TheVariants.{Given, Shown}
 use Rattle.ansi_columns.specs.declared.walks.Walk.{Walk}
 use Rattle.ansi_columns.specs.Views.{seen_char, seen, seen_text, seen_len}
-use Rattle.ansi_columns.specs.Walks.{after, cluster, clusters_after, clusters_from, seen_after, seen_cluster, seen_clusters, IsWalkIn, IsSeenNext, IsFittingTo, SeesUpTo}
+use Rattle.ansi_columns.specs.Walks.{after, cluster, clusters_after, clusters_from, seen_after, seen_cluster, seen_clusters, IsWalkIn, IsSeenNext, IsFittingTo, SeesUpTo, IsCountedTo}
 use Rattle.ansi_columns.proofs.ClusterLemmas.{clusters-none}
 use Rattle.ansi_columns.proofs.ViewLemmas.{seen_before-start, seen-one, seen-append, seen-chars, part-size, after-split, seen_len-split}
 use Rattle.ansi_columns.proofs.WalkLemmas.{before-start, walk_boundary, after-past}
@@ -32,10 +32,6 @@ pub clusters_from-end : (t : List ℕ) (n : ℕ) → after t n ≡ [] → cluste
 clusters_from-end t n none = seen_clusters-end Given t n none
 
 -- The number of columns before a position: with those after it, they are the columns of what is seen.
-pub record IsCountedTo (view : View) (t : List ℕ) (n total : ℕ) : Type 0 where
-  pub all : total + columns_of (seen_clusters view t n) ≡ columns (seen_text view t)
-  pub bound : total ≤ 2 * n
-
 pub counted-begin : (view : View) (t : List ℕ) → IsUtf8 t → IsCountedTo view t 0 0
 counted-begin view t utf8 = record { all = zero-add _ ∙ ap columns_of (seen_clusters-start view t utf8); bound = omega arith }
 

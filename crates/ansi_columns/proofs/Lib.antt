@@ -57,5 +57,6 @@ pub mod SidesLawLemmas
 pub mod IndentLawLemmas
 pub mod PlainCellLemmas
 pub mod PrintableTextLemmas
+pub mod FrontRunLemmas
 pub mod PlainFrontLemmas
 pub mod OnlyLineLemmas

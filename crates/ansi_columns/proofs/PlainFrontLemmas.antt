@@ -36,11 +36,12 @@ use Rattle.ansi_columns.specs.Columns.{clusters, cluster_width, columns_of, colu
 use Rattle.ansi_columns.specs.PlainCells.{IsPlainText, IsAtRun, IsPlainBefore, IsPlainCut}
 use Rattle.ansi_columns.specs.Shown.{has_tail, truncated_width, KeptStays}
 use Rattle.ansi_columns.specs.Views.{seen, seen_text, seen_len}
-use Rattle.ansi_columns.specs.Walks.{clusters_after, seen_before, seen_after, seen_clusters, IsWalkIn, IsNext, IsPrintable, IsPrintableFront, IsPastAscii, AreClustersIn, IsFittingTo, SeesUpTo}
+use Rattle.ansi_columns.specs.Walks.{clusters_after, seen_before, seen_after, seen_clusters, IsWalkIn, IsNext, IsPrintable, IsPrintableFront, IsPastAscii, AreClustersIn, IsFittingTo, SeesUpTo, walk_at_run}
 use Rattle.ansi_columns.proofs.AsciiLemmas.{is_printable, printable-below_7F, All-printable_is_ascii, break_state-printable, breaks-between, width-single}
 use Rattle.ansi_columns.proofs.ClusterLawLemmas.{reversed_before, cluster-alone}
 use Rattle.ansi_columns.proofs.ColumnLemmas.{fitting-before, sees-up_to}
 use Rattle.ansi_columns.proofs.FitLemmas.{fitting-columns}
+use Rattle.ansi_columns.proofs.FrontRunLemmas.{fitting-run, fitting-walk, run-bytes, run-walk}
 use Rattle.ansi_columns.proofs.KeptLemmas.{bytes_before-append, truncated-front}
 use Rattle.ansi_columns.proofs.MissingLemmas.{IsLack, lack-beside, reversed-is}
 use Rattle.ansi_columns.proofs.PlainCellLemmas.{is_plain_piece, IsPlainSoFar, plain-printable, plain-text}
@@ -76,94 +77,26 @@ one_text-through : (style : Rendition) (x : List ℕ) → style_through style (o
 one_text-through style [] = refl
 one_text-through style (b ∷ x) = refl
 
--- ---- the clusters before the run
-
-clusters-singles : (before x : List ℕ) (d : ℕ) (cs : List ℕ) → list_all is_printable x ≡ true → is_printable d ≡ true → clusters_after before (x ++ d ∷ cs) ≡ singles x ++ clusters_after (reversed_before before x) (d ∷ cs)
-clusters-singles before [] d cs all next = refl
-clusters-singles before (c ∷ []) d cs all next = cluster-alone before c (d ∷ cs) (breaks-between before c d cs (and_parts _ _ all).0 next)
-clusters-singles before (c ∷ e ∷ x) d cs all next =
-    let both = and_parts _ _ all in
-    cluster-alone before c (e ∷ x ++ d ∷ cs) (breaks-between before c e (x ++ d ∷ cs) both.0 (and_parts _ _ both.1).0)
-    ∙ ap (λ ks. (c ∷ []) ∷ ks) (clusters-singles (c ∷ before) (e ∷ x) d cs both.1 next)
-
-break_state-front : (before x : List ℕ) → break_state_of [] ≡ break_state_of before → list_all is_printable x ≡ true → break_state_of [] ≡ break_state_of (reversed_before before x)
-break_state-front before [] is all = is
-break_state-front before (c ∷ x) is all = (let both = and_parts _ _ all in break_state-front (c ∷ before) x (break_state-printable c before both.0) both.1)
-
-module _ (t : List ℕ) (utf8 : IsUtf8 t) (x y : List ℕ) (text : plain t ≡ x ++ y) (all : list_all is_printable x ≡ true) where
-  ascii : IsAscii x
-  ascii = IsAscii-from_all x (All-printable_is_ascii x all)
-
-  taken : seen Shown (chars (take (length x) (plain t))) ≡ x
-  taken = ap (λ u. seen Shown (chars u)) (ap (take (length x)) text ∙ take_at x y (length x) refl) ∙ ap (seen Shown) (chars-IsAscii x ascii) ∙ seen-all_printable Shown x all
-
-  before-is : seen_before Shown t (length x) ≡ reversed_before [] x
-  before-is = ap reverse taken ∙ sym (append-nil (reverse x)) ∙ sym (reversed-is [] x)
-
-  front-state : break_state_of [] ≡ break_state_of (seen_before Shown t (length x))
-  front-state = break_state-front [] x refl all ∙ ap break_state_of (sym before-is)
-
-  after-is : seen_after Shown t (length x) ≡ seen Shown (chars y)
-  after-is = ap (λ u. seen Shown (chars u)) (ap (drop (length x)) text ∙ drop_at x y (length x) refl)
-
-  all-is : chars (seen_text Shown t) ≡ x ++ seen Shown (chars y)
-  all-is =
-      seen-chars Shown t utf8 ∙ ap (λ u. seen Shown (chars u)) text ∙ ap (seen Shown) (chars-append x y (IsUtf8-from_ascii x ascii) ∙ ap (λ cs. cs ++ chars y) (chars-IsAscii x ascii))
-      ∙ seen-append Shown x (chars y) ∙ ap (λ cs. cs ++ seen Shown (chars y)) (seen-all_printable Shown x all)
-
-  -- they fit, if a printable byte follows
-  fitting-front : {width left : ℕ} (b : ℕ) (rest : List ℕ) → y ≡ b ∷ rest → is_printable b ≡ true → length x + left ≡ width → IsFittingTo Shown t width (length x) left
-  fitting-front {width} {left} b rest is printable sum =
-      let one : list_all is_printable (b ∷ []) ≡ true = and_from _ _ printable refl in
-      let ascii_one : IsAscii (b ∷ []) = IsAscii-from_all (b ∷ []) (All-printable_is_ascii (b ∷ []) one) in
-      let first : seen Shown (chars y) ≡ b ∷ seen Shown (chars rest)
-      = ap (λ u. seen Shown (chars u)) is ∙ ap (seen Shown) (chars-append (b ∷ []) rest (IsUtf8-from_ascii (b ∷ []) ascii_one) ∙ ap (λ cs. cs ++ chars rest) (chars-IsAscii (b ∷ []) ascii_one))
-      ∙ seen-append Shown (b ∷ []) (chars rest) ∙ ap (λ cs. cs ++ seen Shown (chars rest)) (seen-all_printable Shown (b ∷ []) one) in
-      record {
-        front = singles x;
-        all = ap (clusters_after []) (all-is ∙ ap (λ cs. x ++ cs) first) ∙ clusters-singles [] x b (seen Shown (chars rest)) all printable
-            ∙ ap (λ ks. singles x ++ ks) (ap₂ clusters_after (sym before-is) (sym (after-is ∙ first)));
-        boundary = ap (λ cs. length (encode_utf8_all cs)) taken ∙ ap length (encodes-IsAscii x ascii) ∙ sym (bytes-singles x all);
-        columns = omega (arith, sum, columns-singles x all);
-      }
-
-  fitting-run : {width left : ℕ} (w rest : List ℕ) → y ≡ w ++ rest → 0 < length w → list_all is_printable (take 1 w) ≡ true → length x + left ≡ width → IsFittingTo Shown t width (length x) left
-  fitting-run [] rest is some printable sum = absurd (omega (arith, some))
-  fitting-run (b ∷ w) rest is some printable sum = fitting-front b (w ++ rest) is (and_parts _ _ printable).0 sum
-
 -- ---- the walk at the run
 
 walk-at : {t w : List ℕ} {width left passed at last : ℕ} {style : Rendition} {old ps : List Piece} (v : Walk) → IsUtf8 t → IsPlainSoFar t width left style last passed old → IsOverText t w passed at old ps → IsCharBoundary t at → 0 < length w
-    → v.position ≡ width - left → v.offset ≡ passed → v.run_end ≡ at → v.break_state ≡ break_state_of [] → IsAtRun t width left style v
-walk-at {t} {w} {width} {left} {passed} {at} {style = style} {old} {ps} v utf8 so_far over end some position offset run_end break_state =
+    → v ≡ walk_at_run (width - left) passed at → IsAtRun t width left style v
+walk-at {t} {w} {width} {left} {passed} {at} {style = style} {old} {ps} v utf8 so_far over end some is =
     let front = so_far.front in
     let x = plain_of front in
     let y = w ++ plain_of ps in
+    let offset : v.offset ≡ passed = ap (λ (u : Walk). u.offset) is in
+    let run_end : v.run_end ≡ at = ap (λ (u : Walk). u.run_end) is in
     let pieces : pieces_of t ≡ front ++ Text w ∷ ps = so_far.all ∙ ap (λ qs. front ++ qs) over.first in
     let printable = plain-printable front so_far.are_plain in
     let text : plain t ≡ x ++ y = ap plain_of pieces ∙ flat_map-append plain_bytes front (Text w ∷ ps) in
-    let place : v.position ≡ length x = omega (arith, position, so_far.count) in
-    let there : offset_of t (length x) ≡ length (spelled front)
-    = ap (bytes_before (length x)) pieces ∙ bytes_before-append front (Text w ∷ ps) ∙ ap (λ n. length (spelled front) + n) (bytes_before-last 0 w ps some) ∙ omega arith in
-    let run_are = subst (ArePieces (drop passed t)) (over.there ∙ over.first) (pieces_are (drop passed t)) in
-    let taken : (n : ℕ) → n ≤ length w → take n (drop v.offset t) ≡ take n w = λ n within. ap (λ i. take n (drop i t)) offset ∙ ap (take n) run_are.1 ∙ take-append-le n w run_are.0 within in
+    let place : v.position ≡ length x = omega (arith, ap (λ (u : Walk). u.position) is, so_far.count) in
+    let taken = run-bytes over offset in
     let inside : (n : ℕ) → v.offset + n ≤ v.run_end → n ≤ length w = λ n within. omega (arith, within, over.count, offset, run_end) in
-    let size : v.run_end - v.offset ≡ length w = omega (arith, over.count, offset, run_end) in
     let part : (n : ℕ) → IsPrintableFront t v n → list_all is_printable (take n w) ≡ true
     = λ n bytes. ap (list_all is_printable) (sym (slice_range-take t v.offset n ∙ taken n (inside n bytes.within))) ∙ bytes.bytes in
     record {
-      is_walk = record {
-        offset = offset ∙ so_far.bytes ∙ sym (ap (offset_of t) place ∙ there);
-        run = record {
-          ordered = omega (arith, over.count, offset, run_end);
-          start_boundary = subst (IsCharBoundary t) (sym offset) over.begins;
-          end_boundary = subst (IsCharBoundary t) (sym run_end) end;
-          bytes = ap (λ n. list_all is_plain_byte (take n (drop v.offset t))) size ∙ ap (list_all is_plain_byte) (taken (length w) (omega arith) ∙ take_all (length w) w (omega arith)) ∙ run_are.2.1;
-        };
-        end = λ e. absurd (omega (arith, e, size, some));
-        break_state = break_state ∙ front-state t utf8 x y text printable ∙ ap (λ n. break_state_of (seen_before Shown t n)) (sym place);
-        within = omega (arith, place, ap length text, length-append x y);
-      };
+      is_walk = run-walk Shown front v utf8 pieces printable so_far.bytes over end some place offset run_end (ap (λ (u : Walk). u.break_state) is);
       front = λ n bytes.
           let within = inside n bytes.within in
           let whole : take (v.offset + n) t ≡ take v.offset t ++ take n w = take-add v.offset n t ∙ ap (λ u. take v.offset t ++ u) (taken n within) in
@@ -179,11 +112,11 @@ walk-at {t} {w} {width} {left} {passed} {at} {style = style} {old} {ps} v utf8 s
     }
 
 pub at-run : {t : List ℕ} {width left last : ℕ} {style : Rendition} {old new : Scan} {item : Item} (v : Walk) → IsUtf8 t → IsPlainSoFar t width left style last old.offset (pieces_left old) → GivesItem old item new → old.text ≡ t → item.kind ≡ TextKind
-    → v.position ≡ width - left → v.offset ≡ item.start → v.run_end ≡ item.end → v.break_state ≡ break_state_of [] → IsAtRun t width left style v
-at-run {t} {new = new} {item} v utf8 so_far gives same kind position offset run_end break_state =
+    → v ≡ walk_at_run (width - left) item.start item.end → IsAtRun t width left style v
+at-run {t} {width} {left} {new = new} {item} v utf8 so_far gives same kind is =
     let over = over_text gives same refl kind in
     let end : IsCharBoundary t new.offset = subst (IsCharBoundary t) gives.end (subst (λ u. IsCharBoundary u item.end) same gives.end_boundary) in
-    walk-at v utf8 so_far over end (omega (arith, over.count, gives.start, gives.end, gives.forward)) position (offset ∙ gives.start) (run_end ∙ gives.end) break_state
+    walk-at v utf8 so_far over end (omega (arith, over.count, gives.start, gives.end, gives.forward)) (is ∙ ap₂ (walk_at_run (width - left)) gives.start gives.end)
 
 -- a run that goes on past the width
 pub plain-before : {t : List ℕ} {width left : ℕ} {style : Rendition} {v : Walk} → IsAtRun t width left style v → (n : ℕ) × (left < n) × (later : Walk) × IsPastAscii t v n later → IsPlainBefore t width left style v

@@ -20,13 +20,13 @@ use Rattle.ansi_columns.specs.BreakStates.{break_state_of, IsSingle}
 use Rattle.ansi_columns.specs.Columns.{cluster_width, columns_of, bytes_of}
 use Rattle.ansi_columns.specs.declared.views.View.{View}
 use Rattle.ansi_columns.specs.Views.{seen_char, seen, seen_len}
-use Rattle.ansi_columns.specs.Walks.{IsRun, IsPrintableFront, IsPastAscii, after, cluster, clusters_after, seen_before, seen_after, seen_cluster, seen_clusters, is_seen_ascii, IsWalkIn, IsNext, IsPrintable, AreClustersIn, IsFittingTo, IsPastClusters, IsPastLast, EndsAscii, has_width}
+use Rattle.ansi_columns.specs.Walks.{IsRun, IsPrintableFront, IsPastAscii, after, cluster, clusters_after, seen_before, seen_after, seen_cluster, seen_clusters, is_seen_ascii, IsWalkIn, IsNext, IsPrintable, AreClustersIn, IsFittingTo, IsPastClusters, IsPastLast, IsCountedTo, EndsAscii, has_width}
 use Rattle.ansi_columns.proofs.AsciiLemmas.{is_printable, printable-below_7F, All-printable_is_ascii, break_state-printable, breaks-before_ascii, width-single, IsSingle-printable}
 use Rattle.ansi_columns.proofs.UnnamedLemmas.{breaks-single}
 use Rattle.ansi_columns.proofs.OrdinaryLemmas.{seen_after-printing}
 use Rattle.ansi_columns.proofs.ClusterLemmas.{cluster-begins, cluster-ends}
 use Rattle.ansi_columns.proofs.ClusterLawLemmas.{breaks-last}
-use Rattle.ansi_columns.proofs.ColumnLemmas.{IsCountedTo, bytes_of-append}
+use Rattle.ansi_columns.proofs.ColumnLemmas.{bytes_of-append}
 use Rattle.ansi_columns.proofs.WalkLemmas.{walk_boundary, after-end, after-past, boundary_past, walk-on, walk-over, run-between}
 use Rattle.ansi_columns.proofs.ViewLemmas.{seen-nil, seen-one, seen-append, seen-printable, seen-all_printable, seen-ascii, before-one, after-one, part-size, seen_len-split}
 use Rattle.ansi_columns.proofs.ClusterWalkLemmas.{seen_cluster-next}

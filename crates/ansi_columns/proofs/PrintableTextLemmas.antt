@@ -1,61 +1,108 @@
 -- Texts whose runs are printable ASCII: what one pass over the pieces finds, and their columns.
-use Rattle.std.proofs.Common.{◌≡◌, ℕ, ◌+◌, ◌≤◌, true, ◌&&◌, List, [], ◌++◌, length, take, slice_range, chars, nat_le, nat_eq, min, refl, sym, ◌∙◌, ap, ap₂, subst, arith, append-nil, append_assoc, length-append}
+use Rattle.std.proofs.Common.{◌≡◌, ℕ, ◌+◌, ◌≤◌, true, ◌&&◌, List, [], ◌∷◌, ◌++◌, length, take, slice_range, chars, nat_le, nat_eq, min, refl, sym, ◌∙◌, ap, ap₂, subst, arith, append-nil, append_assoc, length-append}
 use Rattle.std.specs.List.{list_all, prefix_len}
-use Rattle.std.specs.Str.{IsUtf8}
+use Rattle.std.specs.Str.{IsUtf8, IsCharBoundary}
 use Rattle.std.proofs.lemmas.Bool.Decides.{nat_tests}
 use Rattle.std.proofs.lemmas.List.{length-take-le}
+use Rattle.std.proofs.lemmas.Grind.{flat_map-append}
 use Rattle.std.proofs.lemmas.List.Folds.{list_all-append}
 use Rattle.std.proofs.lemmas.Str.{chars-IsAscii}
 use Rattle.std.proofs.lemmas.Str.Ascii.{IsAscii-from_all}
 use Rattle.ansi_items.specs.declared.ansitok.Item.{Item}
 use Rattle.ansi_items.specs.declared.ansitok.Kind.{Kind}
 use Rattle.ansi_items.specs.declared.ansitok.Kind.TheVariants.{Text as TextKind}
-use Rattle.ansi_items.specs.Pieces.{Piece, pieces_of}
-use Rattle.ansi_items.specs.Plain.{plain, plain_of}
+use Rattle.ansi_items.specs.Pieces.{Piece, Text, spelling, pieces_of}
+use Rattle.ansi_items.specs.Plain.{plain, plain_bytes, plain_of}
 use Rattle.ansi_items.specs.Scans.{Scan, GivesItem, pieces_left}
 use Rattle.ansi_items.proofs.PlainLemmas.{length-plain}
-use Rattle.ansi_items.proofs.StepLemmas.{BeginsWithMark, gives_text, plain_of-mark}
+use Rattle.ansi_items.proofs.JoinLemmas.{spelled}
+use Rattle.ansi_items.proofs.StepLemmas.{is_mark}
+use Rattle.ansi_search.proofs.OffsetLemmas.{IsOverText, IsOverMark, over_text}
 use Rattle.ansi_columns.specs.declared.views.View.{View}
-use Rattle.ansi_columns.specs.Columns.{columns, columns_of}
+use Rattle.ansi_columns.specs.Columns.{columns_of}
+use Rattle.ansi_columns.specs.Columns.{columns as columns_in}
 use Rattle.ansi_columns.specs.Views.{seen, seen_text}
-use Rattle.ansi_columns.specs.Walks.{clusters_after}
+use Rattle.ansi_columns.specs.declared.walks.Walk.{Walk}
+use Rattle.ansi_columns.specs.BreakStates.{break_state_of}
+use Rattle.ansi_columns.specs.Walks.{clusters_after, IsWalkIn, IsCountedTo, IsAfterPrintable, walk_at_run}
+use Rattle.ansi_columns.proofs.FrontRunLemmas.{counted-walk, run-walk}
 use Rattle.ansi_columns.proofs.AsciiLemmas.{is_printable, All-printable_is_ascii, columns-printable}
 use Rattle.ansi_safe.proofs.FrontLemmas.{prefix_len-take}
 use Rattle.ansi_columns.proofs.PlainCellLemmas.{printable-test}
 use Rattle.ansi_columns.proofs.ViewLemmas.{seen-chars, seen-all_printable}
 
--- The bytes of the runs passed are printable ASCII, and this many.
-pub record ArePrintableSoFar (t : List ℕ) (width : ℕ) (ps : List Piece) : Type 0 where
-  pub front : List ℕ
-  pub all : plain t ≡ front ++ plain_of ps
-  pub printable : list_all is_printable front ≡ true
-  pub count : length front ≡ width
+-- The pieces passed have this many bytes, and those of the runs among them are printable ASCII, and this many.
+pub record ArePrintableSoFar (t : List ℕ) (columns passed : ℕ) (ps : List Piece) : Type 0 where
+  pub front : List Piece
+  pub all : pieces_of t ≡ front ++ ps
+  pub bytes : passed ≡ length (spelled front)
+  pub printable : list_all is_printable (plain_of front) ≡ true
+  pub count : length (plain_of front) ≡ columns
 
--- over a run
-pub printable-run : {t w : List ℕ} {width next : ℕ} {old new : Scan} {item : Item} → ArePrintableSoFar t width (pieces_left old) → GivesItem old item new → old.text ≡ t → w ≡ slice_range t item.start item.end → item.kind ≡ TextKind
-    → list_all is_printable w ≡ true → next ≡ width + length w → ArePrintableSoFar t next (pieces_left new)
-printable-run {t} {w} {width} {next} {old} {new} so_far gives same is kind printable next_is =
-    let here = subst (ArePrintableSoFar t width) (gives_text gives same is kind) so_far in
+pub printable-begin : (t : List ℕ) → ArePrintableSoFar t 0 0 (pieces_of t)
+printable-begin t = record { front = []; all = refl; bytes = refl; printable = refl; count = refl }
+
+printable-more : {t : List ℕ} {columns next passed at : ℕ} {ps : List Piece} (p : Piece) → ArePrintableSoFar t columns passed (p ∷ ps) → list_all is_printable (plain_bytes p) ≡ true → at ≡ passed + length (spelling p) → next ≡ columns + length (plain_bytes p) → ArePrintableSoFar t next at ps
+printable-more {ps = ps} p so_far printable at_is next_is =
+    let front = so_far.front in
+    let runs : plain_of (front ++ p ∷ []) ≡ plain_of front ++ plain_bytes p = flat_map-append plain_bytes front (p ∷ []) ∙ ap (λ u. plain_of front ++ u) (append-nil (plain_bytes p)) in
     record {
-      front = here.front ++ w;
-      all = here.all ∙ sym (append_assoc here.front w (plain_of (pieces_left new)));
-      printable = list_all-append is_printable here.front w ∙ ap₂ (λ a b. a && b) here.printable printable;
-      count = omega (arith, here.count, length-append here.front w, next_is);
+      front = front ++ p ∷ [];
+      all = so_far.all ∙ sym (append_assoc front (p ∷ []) ps);
+      bytes = omega (arith, at_is, so_far.bytes, ap length (flat_map-append spelling front (p ∷ []) ∙ ap (λ u. spelled front ++ u) (append-nil (spelling p))), length-append (spelled front) (spelling p));
+      printable = ap (list_all is_printable) runs ∙ list_all-append is_printable (plain_of front) (plain_bytes p) ∙ ap₂ (λ a b. a && b) so_far.printable printable;
+      count = omega (arith, next_is, so_far.count, ap length runs, length-append (plain_of front) (plain_bytes p));
     }
 
-pub printable-within : {t : List ℕ} {width : ℕ} {ps : List Piece} → ArePrintableSoFar t width ps → width ≤ length t
-printable-within {t} {ps = ps} so_far = omega (arith, so_far.count, ap length so_far.all, length-append so_far.front (plain_of ps), length-plain t)
+-- over a run
+pub printable-run : {t w : List ℕ} {columns next passed at : ℕ} {old ps : List Piece} → ArePrintableSoFar t columns passed old → IsOverText t w passed at old ps → list_all is_printable w ≡ true → next ≡ columns + length w → ArePrintableSoFar t next at ps
+printable-run {t} {w} {columns} {passed = passed} so_far over printable next_is = printable-more (Text w) (subst (ArePrintableSoFar t columns passed) over.first so_far) printable over.count next_is
+
+-- over a sequence or a lone escape
+mark-bytes : (p : Piece) → is_mark p ≡ true → plain_bytes p ≡ []
+mark-bytes (Text w) mark = absurd (cc mark)
+mark-bytes p mark = refl
+
+pub printable-mark : {t w : List ℕ} {columns passed at : ℕ} {kind : Kind} {old ps : List Piece} → ArePrintableSoFar t columns passed old → IsOverMark kind t w passed at old ps → ArePrintableSoFar t columns at ps
+printable-mark {t} {columns = columns} {passed} so_far over =
+    let first = over.first in
+    let none = mark-bytes first.mark first.is_mark in
+    printable-more first.mark (subst (ArePrintableSoFar t columns passed) first.pieces so_far) (ap (list_all is_printable) none) (omega (arith, over.count, ap length first.bytes)) (omega (arith, ap length none))
+
+pub printable-within : {t : List ℕ} {columns passed : ℕ} {ps : List Piece} → ArePrintableSoFar t columns passed ps → columns ≤ length t
+printable-within {t} {ps = ps} so_far =
+    omega (arith, so_far.count, ap length (ap plain_of so_far.all ∙ flat_map-append plain_bytes so_far.front ps), length-append (plain_of so_far.front) (plain_of ps), length-plain t)
 
 -- what is seen of it has as many columns
-pub printable-columns : {t : List ℕ} {width : ℕ} {old : List Piece} (view : View) → IsUtf8 t → ArePrintableSoFar t width old → old ≡ [] → width ≡ columns (seen_text view t)
-printable-columns {t} {width} view utf8 so_far none =
-    let here = subst (ArePrintableSoFar t width) none so_far in
-    let x = here.front in
-    let front : plain t ≡ x = here.all ∙ append-nil x in
+pub printable-columns : {t : List ℕ} {columns passed : ℕ} {old : List Piece} (view : View) → IsUtf8 t → ArePrintableSoFar t columns passed old → old ≡ [] → columns ≡ columns_in (seen_text view t)
+printable-columns {t} {columns} {passed} view utf8 so_far none =
+    let here = subst (ArePrintableSoFar t columns passed) none so_far in
+    let x = plain_of here.front in
+    let front : plain t ≡ x = ap plain_of (here.all ∙ append-nil here.front) in
     let ascii : chars x ≡ x = chars-IsAscii x (IsAscii-from_all x (All-printable_is_ascii x here.printable)) in
     let seen_is : chars (seen_text view t) ≡ chars x
     = seen-chars view t utf8 ∙ ap (λ u. seen view (chars u)) front ∙ ap (seen view) ascii ∙ seen-all_printable view x here.printable ∙ sym ascii in
     sym here.count ∙ sym (ap (λ cs. columns_of (clusters_after [] cs)) seen_is ∙ columns-printable x here.printable)
+
+-- at a run
+pub after-printable : {t : List ℕ} {columns : ℕ} {old new : Scan} {item : Item} (v : Walk) → IsUtf8 t → ArePrintableSoFar t columns old.offset (pieces_left old) → GivesItem old item new → old.text ≡ t → item.kind ≡ TextKind → v ≡ walk_at_run columns item.start item.end
+    → IsAfterPrintable t columns v
+after-printable {t} {columns} {new = new} {item} v utf8 so_far gives same kind is =
+    let over = over_text gives same refl kind in
+    let w = slice_range t item.start item.end in
+    let ps = pieces_left new in
+    let x = plain_of so_far.front in
+    let end : IsCharBoundary t new.offset = subst (IsCharBoundary t) gives.end (subst (λ u. IsCharBoundary u item.end) same gives.end_boundary) in
+    let pieces : pieces_of t ≡ so_far.front ++ Text w ∷ ps = so_far.all ∙ ap (λ qs. so_far.front ++ qs) over.first in
+    let text : plain t ≡ x ++ (w ++ plain_of ps) = ap plain_of pieces ∙ flat_map-append plain_bytes so_far.front (Text w ∷ ps) in
+    let place : v.position ≡ length x = ap (λ (u : Walk). u.position) is ∙ sym so_far.count in
+    let walk : (view : View) → IsWalkIn view t v
+    = λ view. run-walk view so_far.front v utf8 pieces so_far.printable so_far.bytes over end (omega (arith, over.count, gives.start, gives.end, gives.forward)) place (ap (λ (u : Walk). u.offset) is ∙ gives.start) (ap (λ (u : Walk). u.run_end) is ∙ gives.end)
+    (ap (λ (u : Walk). u.break_state) is) in
+    record {
+      is_walk = walk;
+      counted = λ view ends. subst (IsCountedTo view t v.position) so_far.count (counted-walk view t utf8 x (w ++ plain_of ps) text so_far.printable v place (walk view) ends);
+    }
 
 -- ---- the test of a run
 

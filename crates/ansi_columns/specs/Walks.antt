@@ -8,11 +8,12 @@ use Rattle.ansi_search.specs.Offsets.{offset_of}
 use Rattle.ansi_safe.specs.Safe.{is_printable_byte}
 use Rattle.unicode_segmentation.specs.Grapheme.{is_grapheme_break}
 use Rattle.unicode_segmentation.specs.Segments.{cut}
+use Rattle.ansi_columns.specs.declared.walks.Run.{Run}
 use Rattle.ansi_columns.specs.declared.walks.Walk.{Walk}
 use Rattle.ansi_columns.specs.declared.views.View.{View}
 use Rattle.ansi_columns.specs.declared.views.View.TheVariants.{Given}
 use Rattle.ansi_columns.specs.BreakStates.{break_state_of}
-use Rattle.ansi_columns.specs.Columns.{clusters, cluster_width, columns_of, bytes_of, FitsUpTo}
+use Rattle.ansi_columns.specs.Columns.{clusters, cluster_width, columns, columns_of, bytes_of, FitsUpTo}
 use Rattle.ansi_columns.specs.Views.{seen_char, seen, seen_text, seen_len}
 
 -- the characters of the plain text of t before the position n, the last one first
@@ -108,6 +109,18 @@ pub record IsPastByte (view : View) (t : List ℕ) (from later : Walk) : Type 0 
 abbrev pub IsPastLast : View → List ℕ → Walk → Walk → Type 0
 IsPastLast view t run later = (from : Walk) → from.position + 1 ≡ run.position + (run.run_end - run.offset) → from.offset + 1 ≡ run.run_end → IsPastByte view t from later
 
+-- the walk at a run, in the state after printable ASCII
+abbrev pub walk_at_run : ℕ → ℕ → ℕ → Walk
+walk_at_run position start end = record { position = position; offset = start; run_end = end; break_state = break_state_of [] }
+
+-- the walk after a byte of printable ASCII, at the next run
+abbrev pub walk_at : Walk → Run → Walk
+walk_at walk next = record { position = walk.position + 1; offset = next.start; run_end = next.end; break_state = break_state_of [] }
+
+-- the run is the next one after the byte at the walk, if it is one
+abbrev pub IsNextRun : View → List ℕ → Walk → Run → Type 0
+IsNextRun view t walk next = 0 < next.end → IsPastByte view t walk (walk_at walk next)
+
 -- a cluster that ends in printable ASCII ends at the walk, whatever is before it
 abbrev pub EndsAscii : List ℕ → Walk → Type 0
 EndsAscii t walk = (view : View) → IsWalkIn view t walk → (before : List ℕ) (b : ℕ) → IsTrue (is_printable_byte b) → is_grapheme_break true (b ∷ before) (seen_after view t walk.position) ≡ true
@@ -157,6 +170,16 @@ pub record IsPastAscii (t : List ℕ) (from : Walk) (n : ℕ) (later : Walk) : T
   pub position : later.position ≡ from.position + n
   pub clusters : (view : View) → AreClustersIn view t from.position (slice_range t from.offset (from.offset + n))
   pub seen : (view : View) → seen_len view t later.position ≡ seen_len view t from.position + n
+
+-- This number of columns is before a position.
+pub record IsCountedTo (view : View) (t : List ℕ) (n total : ℕ) : Type 0 where
+  pub all : total + columns_of (seen_clusters view t n) ≡ columns (seen_text view t)
+  pub bound : total ≤ 2 * n
+
+-- A walk at a run before which there is only printable ASCII, with this number of columns.
+pub record IsAfterPrintable (t : List ℕ) (columns : ℕ) (walk : Walk) : Type 0 where
+  pub is_walk : (view : View) → IsWalkIn view t walk
+  pub counted : (view : View) → EndsAscii t walk → IsCountedTo view t walk.position columns
 
 -- The clusters up to a position fit, and leave this number of columns.
 pub record IsFittingTo (view : View) (t : List ℕ) (width n left : ℕ) : Type 0 where

@@ -119,7 +119,7 @@ pub(crate) fn first_line(text: &str, start: Walk, width: usize) -> (Walk, Walk, 
     let mut end = start;
     let mut columns = 0;
     'clusters: loop {
-        let (after, len, last) = here.past_ascii(text, width.saturating_sub(columns));
+        let (after, len, next_run) = here.past_ascii(text, width.saturating_sub(columns));
         (end_before, word, end) = words_after(text, here, len, after, end_before, word, end);
         columns += len;
         let is_at_next_run = here.run_end < after.run_end;
@@ -128,7 +128,7 @@ pub(crate) fn first_line(text: &str, start: Walk, width: usize) -> (Walk, Walk, 
             // Its printable ASCII may be passed at once too.
             continue;
         }
-        let Some((next, more)) = here.next_cluster_from(text, last, View::Given) else {
+        let Some((next, more)) = here.next_cluster_before(text, next_run, View::Given) else {
             return (start, end, None);
         };
         if is_line_end(text, &here, &next) {

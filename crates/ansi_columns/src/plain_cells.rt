@@ -9,7 +9,6 @@ ghost use Rattle.ansi_columns.specs.declared.walks.Walk.{Walk};
 ghost use Rattle.ansi_columns.specs.PlainCells.{IsPlainCell, IsAtRun, IsPlainBefore, IsPlainCut};
 ghost use Rattle.ansi_columns.specs.Walks.{IsAnyWalk, IsPastAscii};
 
-use crate::break_state::BreakState;
 use crate::walks::Walk;
 use ansi_items::ansitok::{Kind, Scanner};
 use ansi_safe::printable::printable_len;
@@ -31,11 +30,11 @@ pub(crate) struct PlainFront {
 }
 
 /// The length of the longest text that is looked at. A search for the next sequence of a longer one
-/// could read far past the width.
-const LONGEST: usize = 512;
+/// could read far past the width, and `widths::width` would read much of it twice.
+pub(crate) const LONGEST: usize = 512;
 
-/// Whether a text is short and ASCII. Another one isn't looked at, so that it isn't read in vain.
-pub(crate) fn is_short_ascii(text: &str) -> bool {
+/// Whether a text is ASCII, and not too long to be looked at.
+fn is_short_ascii(text: &str) -> bool {
     text.len() <= LONGEST && is_ascii(text.as_bytes())
 }
 
@@ -45,7 +44,9 @@ fn is_ascii(bytes: &[u8]) -> bool {
     match bytes.len() {
         0..=7 => bytes.iter().all(|b| *b < 0x80),
         8..=15 => is_ascii_8(bytes) && is_ascii_8(&bytes[bytes.len() - 8..]),
-        _ => { bytes.chunks_exact(16).all(is_ascii_16) && is_ascii_16(&bytes[bytes.len() - 16..]) }
+        _ => {
+            bytes.chunks_exact(16).all(is_ascii_16) && is_ascii_16(&bytes[bytes.len() - 16..])
+        }
     }
 }
 
@@ -95,6 +96,9 @@ pub(crate) fn plain_cell(text: &str, width: usize) -> Option<PlainFront>
     ensures { IfSome result (λ f.
         IsPlainCell text.now width f.left (rendition_of f.style) f.last) }
 {
+    if !is_short_ascii(text) {
+        return None;
+    }
     let front = plain_runs(text, width)?;
     match front.run {
         Some(_) => None,
@@ -109,7 +113,7 @@ fn plain_runs(text: &str, width: usize) -> Option<PlainFront>
         (IsPlainCell text.now width f.left (rendition_of f.style) f.last)
         (IsAtRun text.now width f.left (rendition_of f.style))) }
 {
-    if !is_short_ascii(text) {
+    if LONGEST < text.len() {
         return None;
     }
     let mut style = styles::plain_style();
@@ -125,12 +129,7 @@ fn plain_runs(text: &str, width: usize) -> Option<PlainFront>
             return None;
         }
         if left < piece.len() {
-            let run = Walk {
-                position: width - left,
-                offset: item.start,
-                run_end: item.end,
-                break_state: BreakState::start(),
-            };
+            let run = Walk::at_run(&item, width - left);
             return Some(PlainFront {
                 left,
                 style,

@@ -1,6 +1,6 @@
 //! A walk over the clusters of a plain text, and the width of each cluster.
-ghost use Rattle.std.specs.Prelude.{◌≡◌, ◌+◌, ◌*◌, ◌-◌, ◌<◌, ◌≤◌, [], ◌∷◌, length, encode_utf8};
-ghost use Rattle.std.specs.Prelude.{ℕ, List, ◌++◌, slice_range, MatchOption, IfSome, IsSome, IsTrue};
+ghost use Rattle.std.specs.Prelude.{◌≡◌, ◌+◌, ◌*◌, ◌-◌, ◌^◌, ◌<◌, ◌≤◌, [], ◌∷◌, length, encode_utf8};
+ghost use Rattle.std.specs.Prelude.{ℕ, List, ◌++◌, slice_range, MatchOption, IfSome, IsTrue};
 ghost use Rattle.std.specs.List.{list_all};
 ghost use Rattle.ansi_search.specs.Offsets.{offset_of};
 ghost use Rattle.ansi_safe.specs.Safe.{is_printable_byte};
@@ -11,12 +11,12 @@ ghost use Rattle.ansi_columns.specs.Views.{seen_len};
 ghost use Rattle.ansi_columns.specs.Walks.{before, after, seen_before, seen_after, seen_cluster};
 ghost use Rattle.ansi_columns.specs.Walks.{IsRun, IsWalkIn, IsWalk, IsAnyWalk, IsNext, IsPastCluster, IsPastClusters};
 ghost use Rattle.ansi_columns.specs.Walks.{IsSeenNext, IsPrintable, IsPrintableFront, AreClustersIn, IsPastAscii, is_seen_ascii};
-ghost use Rattle.ansi_columns.specs.Walks.{IsPastFirst, IsPastByte, IsPastLast, EndsAscii};
+ghost use Rattle.ansi_columns.specs.Walks.{IsPastFirst, IsPastLast, IsNextRun, EndsAscii, walk_at, walk_at_run};
 
 use crate::break_state::{BreakState, is_single};
 use crate::from_end;
 use crate::views::View;
-use ansi_items::ansitok::{Kind, Scanner};
+use ansi_items::ansitok::{Item, Kind, Scanner};
 use ansi_safe::printable::printable_len;
 use unicode_width::UnicodeWidthChar;
 
@@ -32,6 +32,17 @@ pub(crate) struct Walk {
     pub(crate) break_state: BreakState,
 }
 
+/// Where a run begins and ends, as offsets of the text. `end` is 0 if there is none.
+#[derive(Clone, Copy)]
+pub(crate) struct Run {
+    pub(crate) start: usize,
+    pub(crate) end: usize,
+}
+
+impl Run {
+    pub(crate) const NONE: Run = Run { start: 0, end: 0 };
+}
+
 impl Walk {
     /// The walk before the first character.
     pub(crate) fn start(text: &str) -> Walk
@@ -44,6 +55,19 @@ impl Walk {
             position: 0,
             offset,
             run_end,
+            break_state: BreakState::start(),
+        }
+    }
+
+    /// The walk at a run before which there is only printable ASCII, with `position` bytes.
+    #[inline(always)]
+    pub(crate) fn at_run(run: &Item, position: usize) -> Walk
+        ensures { result ≡ walk_at_run position run.now.start run.now.end }
+    {
+        Walk {
+            position,
+            offset: run.start,
+            run_end: run.end,
             break_state: BreakState::start(),
         }
     }
@@ -74,36 +98,51 @@ impl Walk {
         Some(self.cluster_from(text, first, start.past(text, first), view))
     }
 
-    /// The same, if `last` may be the walk after the first character of the cluster, a byte of
-    /// printable ASCII.
+    /// The same. If `next` is a run, the cluster begins with a byte of printable ASCII, and the run is
+    /// the next one after that byte.
     #[inline(always)]
-    pub(crate) fn next_cluster_from(
+    pub(crate) fn next_cluster_before(
         self,
         text: &str,
-        last: Option<Walk>,
+        next: Run,
         view: View,
     ) -> Option<(Walk, usize)>
         requires walk { IsWalkIn view text.now self }
-        requires last { IfSome last (IsPastByte view text.now self) }
+        requires next { IsNextRun view text.now self next }
         ensures { MatchOption result (seen_after view text.now self.position ≡ []) (λ (walk, width).
             IsPastCluster view text.now self walk width) }
     {
-        match last {
-            Some(last) => Some(self.cluster_from_byte(text, last, view)),
-            None => self.next_cluster(text, view),
+        if next.end == 0 {
+            return self.next_cluster(text, view);
         }
+        Some(self.cluster_over(text, next, view))
     }
 
     /// The walk after the next cluster, and its columns. The cluster begins with a byte of printable
-    /// ASCII, and `last` is the walk after that byte.
+    /// ASCII, which is the last one before the run `next`.
     #[inline(never)]
-    fn cluster_from_byte(self, text: &str, last: Walk, view: View) -> (Walk, usize)
+    fn cluster_over(self, text: &str, next: Run, view: View) -> (Walk, usize)
         requires walk { IsWalkIn view text.now self }
-        requires last { IsPastByte view text.now self last }
+        requires some { 0 < next.end }
+        requires next { IsNextRun view text.now self next }
         ensures { IsPastCluster view text.now self result.0 result.1 }
     {
         let first = char::from(text.as_bytes()[self.offset]);
-        self.cluster_from(text, first, last, view)
+        self.cluster_from(text, first, self.at(next), view)
+    }
+
+    /// The walk after a byte of printable ASCII, at the next run.
+    #[inline(always)]
+    fn at(self, next: Run) -> Walk
+        requires { self.position + 1 < 2 ^ 64 }
+        ensures { result ≡ walk_at self next }
+    {
+        Walk {
+            position: self.position + 1,
+            offset: next.start,
+            run_end: next.end,
+            break_state: BreakState::start(),
+        }
     }
 
     /// The walk after the next cluster that is seen, and its columns. `after_first` is the walk after
@@ -178,19 +217,38 @@ impl Walk {
         }
     }
 
-    /// The same for the printable ASCII that comes next in the run. If what joins its last byte
-    /// follows after sequences, that cluster is passed too.
+    /// The same for the printable ASCII that comes next in the run.
     #[inline(always)]
     fn past_ascii_clusters(self, text: &str, most: usize, view: View) -> (Walk, usize)
         requires { IsWalkIn view text.now self }
         ensures past { IsPastClusters view text.now self result.0 result.1 }
         ensures most { result.1 ≤ most }
     {
-        let (walk, len, last) = self.past_ascii(text, most);
-        if let Some(last) = last {
-            let (next, width) = walk.cluster_from_byte(text, last, view);
+        let len = self.printable_front(text, most);
+        if 0 < len && len == self.run_end - self.offset {
+            return self.past_run_clusters(text, most, view);
+        }
+        let len = self.before_ascii(text, len);
+        (self.past_printable(text, len), len)
+    }
+
+    /// The same for a run that is printable ASCII. If what joins its last byte follows after
+    /// sequences, that cluster is passed too.
+    #[inline(always)]
+    fn past_run_clusters(self, text: &str, most: usize, view: View) -> (Walk, usize)
+        requires walk { IsWalkIn view text.now self }
+        requires some { self.offset < self.run_end }
+        requires bytes { IsTrue (list_all is_printable_byte
+            (slice_range text.now self.offset self.run_end)) }
+        requires most { self.run_end - self.offset ≤ most }
+        ensures past { IsPastClusters view text.now self result.0 result.1 }
+        ensures most { result.1 ≤ most }
+    {
+        let (walk, len, next) = self.past_run(text);
+        if 0 < next.end {
+            let (after, width) = walk.cluster_over(text, next, view);
             if 0 < width && width <= most - len {
-                return (next, len + width);
+                return (after, len + width);
             }
         }
         (walk, len)
@@ -265,31 +323,31 @@ impl Walk {
     /// and how many bytes those are. Each of them is a cluster of one column.
     ///
     /// A byte before a character that may join its cluster isn't among them. If sequences precede that
-    /// character, the walk after both is the third result. If all of the run is passed, the first
+    /// character, the third result is the run that it begins. If all of the run is passed, the first
     /// result is the walk at the next run.
     #[inline(always)]
-    pub(crate) fn past_ascii(self, text: &str, most: usize) -> (Walk, usize, Option<Walk>)
+    pub(crate) fn past_ascii(self, text: &str, most: usize) -> (Walk, usize, Run)
         requires { IsAnyWalk text.now self }
         ensures past { IsPastAscii text.now self result.1 result.0 }
         ensures most { result.1 ≤ most }
         ensures none { result.1 ≡ 0 → result.0 ≡ self }
-        ensures last { IfSome result.2 (λ last. (view : View) → IsWalkIn view text.now self →
-            IsPastByte view text.now result.0 last) }
-        ensures less { IsSome result.2 → result.1 < most }
+        ensures next { (view : View) → IsWalkIn view text.now self →
+            IsNextRun view text.now result.0 result.2 }
     {
         if !matches!(text.as_bytes().get(self.offset), Some(0x20..=0x7E)) {
-            return (self, 0, None);
+            return (self, 0, Run::NONE);
         }
         let len = self.printable_front(text, most);
         if 0 < len && len == self.run_end - self.offset {
             return self.past_run(text);
         }
         let len = self.before_ascii(text, len);
-        (self.past_printable(text, len), len, None)
+        (self.past_printable(text, len), len, Run::NONE)
     }
 
     /// The same for a run that is printable ASCII.
-    fn past_run(self, text: &str) -> (Walk, usize, Option<Walk>)
+    #[inline(always)]
+    fn past_run(self, text: &str) -> (Walk, usize, Run)
         requires walk { IsAnyWalk text.now self }
         requires some { self.offset < self.run_end }
         requires bytes { IsTrue (list_all is_printable_byte
@@ -297,19 +355,24 @@ impl Walk {
         ensures past { IsPastAscii text.now self result.1 result.0 }
         ensures most { result.1 ≤ self.run_end - self.offset }
         ensures none { result.1 ≡ 0 → result.0 ≡ self }
-        ensures last { IfSome result.2 (λ last. (view : View) → IsWalkIn view text.now self →
-            IsPastByte view text.now result.0 last) }
-        ensures less { IsSome result.2 → result.1 < self.run_end - self.offset }
+        ensures less { 0 < result.2.end → result.1 < self.run_end - self.offset }
+        ensures next { (view : View) → IsWalkIn view text.now self →
+            IsNextRun view text.now result.0 result.2 }
     {
         let len = self.run_end - self.offset;
         let next = self.next_run(text);
         if next.ends_ascii(text) {
-            return (next, len, None);
+            return (next, len, Run::NONE);
         }
-        (self.past_printable(text, len - 1), len - 1, Some(next))
+        let run = Run {
+            start: next.offset,
+            end: next.run_end,
+        };
+        (self.past_printable(text, len - 1), len - 1, run)
     }
 
     /// The walk after the run, which is printable ASCII.
+    #[inline(always)]
     fn next_run(self, text: &str) -> Walk
         requires walk { IsAnyWalk text.now self }
         requires some { self.offset < self.run_end }
@@ -321,6 +384,8 @@ impl Walk {
             IsPastAscii text.now self (self.run_end - self.offset) result }
         ensures last { (view : View) → IsWalkIn view text.now self →
             IsPastLast view text.now self result }
+        ensures position { result.position ≡ self.position + (self.run_end - self.offset) }
+        ensures break_state { result.break_state ≡ break_state_of [] }
     {
         let (start, end) = first_run(&text[self.run_end..]);
         Walk {
@@ -333,8 +398,8 @@ impl Walk {
 
     /// Whether a cluster that ends in printable ASCII ends at the walk, whatever came before. `false`
     /// says nothing.
-    #[inline]
-    fn ends_ascii(self, text: &str) -> bool
+    #[inline(always)]
+    pub(crate) fn ends_ascii(self, text: &str) -> bool
         requires { IsAnyWalk text.now self }
         ensures { IsTrue result → EndsAscii text.now self }
     {

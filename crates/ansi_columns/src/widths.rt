@@ -1,10 +1,11 @@
 //! The width of a text.
-ghost use Rattle.std.specs.Prelude.{◌≡◌, IfSome};
+ghost use Rattle.std.specs.Prelude.{◌≡◌, MatchOption};
 ghost use Rattle.ansi_columns.specs.declared.views.View.{View};
 ghost use Rattle.ansi_columns.specs.Columns.{columns};
 ghost use Rattle.ansi_columns.specs.Views.{seen_text};
+ghost use Rattle.ansi_columns.specs.Walks.{IsWalkIn, IsCountedTo, IsAfterPrintable};
 
-use crate::plain_cells::{is_printable, is_short_ascii};
+use crate::plain_cells::{LONGEST, is_printable};
 use crate::views::View;
 use crate::walks::Walk;
 use ansi_items::ansitok::{Kind, Scanner};
@@ -13,38 +14,47 @@ use ansi_items::ansitok::{Kind, Scanner};
 pub(crate) fn width(text: &str, view: View) -> usize
     ensures { result ≡ columns (seen_text view text.now) }
 {
-    match printable_width(text) {
-        Some(width) => width,
-        None => walked_width(text, view),
+    let (columns, next) = printable_runs(text);
+    let Some(next) = next else {
+        return columns;
+    };
+    if next.ends_ascii(text) {
+        return walked_width(text, view, next, columns);
     }
+    walked_width(text, view, Walk::start(text), 0)
 }
 
-/// The columns of a text whose runs are printable ASCII. A long one isn't looked at, nor one that
-/// isn't ASCII. `None` says nothing.
-fn printable_width(text: &str) -> Option<usize>
-    ensures { IfSome result (λ n. (view : View) → n ≡ columns (seen_text view text.now)) }
+/// The columns of the runs of a text that are printable ASCII, up to another one, and the walk at that
+/// one. A long text isn't looked at.
+fn printable_runs(text: &str) -> (usize, Option<Walk>)
+    ensures { MatchOption result.1 ((view : View) → result.0 ≡ columns (seen_text view text.now))
+        (IsAfterPrintable text.now result.0) }
 {
-    if !is_short_ascii(text) {
-        return None;
+    if LONGEST < text.len() {
+        return (0, Some(Walk::start(text)));
     }
-    let mut width = 0;
+    let mut columns = 0;
     for item in Scanner::new(text) {
-        if item.kind == Kind::Text {
-            if !is_printable(text, item.start, item.end) {
-                return None;
-            }
-            width += item.end - item.start;
+        if item.kind != Kind::Text {
+            continue;
         }
+        if !is_printable(text, item.start, item.end) {
+            return (columns, Some(Walk::at_run(&item, columns)));
+        }
+        columns += item.end - item.start;
     }
-    Some(width)
+    (columns, None)
 }
 
-/// The same as `width`, cluster by cluster.
-fn walked_width(text: &str, view: View) -> usize
+/// The columns of what is seen of a text, cluster by cluster, after a walk before which there are
+/// `before` columns.
+fn walked_width(text: &str, view: View, from: Walk, before: usize) -> usize
+    requires walk { IsWalkIn view text.now from }
+    requires counted { IsCountedTo view text.now from.position before }
     ensures { result ≡ columns (seen_text view text.now) }
 {
-    let mut walk = Walk::start(text);
-    let mut total = 0;
+    let mut walk = from;
+    let mut total = before;
     'clusters: loop {
         let (later, more) = walk.past_singles(text, usize::MAX, view);
         if more > 0 {

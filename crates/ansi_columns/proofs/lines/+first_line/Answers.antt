@@ -2,7 +2,6 @@ use Rattle.std.proofs.Common.{◌≡◌, ◌+◌, ◌-◌, ◌^◌, ◌<◌, ◌
 use Rattle.std.specs.Str.{IsUtf8}
 use Rattle.std.proofs.lemmas.Bool.{eqb-false}
 use Rattle.std.proofs.lemmas.Bool.Decides.{nat_tests}
-use Rattle.std.proofs.lemmas.Option.{IfSome_then}
 use Rattle.ansi_items.specs.Plain.{plain}
 use Rattle.ansi_items.proofs.PlainLemmas.{length-plain}
 use Rattle.ansi_columns.specs.declared.views.View.TheVariants.{Given}
@@ -139,7 +138,7 @@ pub returns-in_default-clause-lines : goal.returns-in_default-clause-lines
 returns-in_default-clause-lines n c =
     let inv = read-printable c.clusters.invariant c.past_ascii-len.ensures.past (omega (arith, c.past_ascii-len.ensures.most)) c.words_after.ensures.end_before c.words_after.ensures.word c.words_after.ensures.end c.words_after.ensures.positions in
     line-is_last c.args.text.now c.args.width c.args.start.position c.words_after.result.0.position c.words_after.result.1.position c.words_after.result.2.position c.past_ascii-len.result.0.position (c.clusters.columns + c.past_ascii-len.result.1) inv.line
-    (clusters_from-end c.args.text.now c.past_ascii-len.result.0.position (rw c.in_default.is at c.next_cluster_from.ensures))
+    (clusters_from-end c.args.text.now c.past_ascii-len.result.0.position (rw c.in_default.is at c.next_cluster_before.ensures))
 
 pub returns-in_default-clause-ordered : goal.returns-in_default-clause-ordered
 returns-in_default-clause-ordered n c =
@@ -179,11 +178,11 @@ returns-else-end_before-start-clause-next_ordered n c =
 pub past_ascii-len-requires : goal.past_ascii-len-requires
 past_ascii-len-requires n c = (Given, c.clusters.invariant.here_walk)
 
-pub next_cluster_from-requires-clause-walk : goal.next_cluster_from-requires-clause-walk
-next_cluster_from-requires-clause-walk n c = c.past_ascii-len.ensures.past.walk Given c.clusters.invariant.here_walk
+pub next_cluster_before-requires-clause-walk : goal.next_cluster_before-requires-clause-walk
+next_cluster_before-requires-clause-walk n c = c.past_ascii-len.ensures.past.walk Given c.clusters.invariant.here_walk
 
-pub next_cluster_from-requires-clause-last : goal.next_cluster_from-requires-clause-last
-next_cluster_from-requires-clause-last n c = IfSome_then c.past_ascii-len.result.2 c.past_ascii-len.ensures.last (λ last is. is Given c.clusters.invariant.here_walk)
+pub next_cluster_before-requires-clause-next : goal.next_cluster_before-requires-clause-next
+next_cluster_before-requires-clause-next n c = c.past_ascii-len.ensures.next Given c.clusters.invariant.here_walk
 
 pub is_line_end-requires-clause-here : goal.is_line_end-requires-clause-here
 is_line_end-requires-clause-here n c = c.past_ascii-len.ensures.past.walk Given c.clusters.invariant.here_walk

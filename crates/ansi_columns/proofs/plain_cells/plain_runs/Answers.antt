@@ -52,7 +52,7 @@ loop-item-preserved c =
 pub returns-then-left-piece : goal.returns-then-left-piece
 returns-then-left-piece c =
     let inv = c.loop-item.invariant in
-    at-run _ c.utf8.text inv.so_far c.in-Some.ensures.steps inv.text (kind_is_text (sym (not-false _ (sym c.if-ne.ensures)))) refl refl refl c.start.ensures
+    at-run _ c.utf8.text inv.so_far c.in-Some.ensures.steps inv.text (kind_is_text (sym (not-false _ (sym c.if-ne.ensures)))) c.at_run-run.ensures
 
 pub returns : goal.returns
 returns c = plain-end c.utf8.text c.loop-item.invariant.so_far c.in-None.ensures.steps.2

@@ -1,14 +1,8 @@
 use Rattle.std.proofs.Common.{◌^◌, ◌<◌, length, refl, sym, subst, arith, rules}
 use Rattle.ansi_items.proofs.PlainLemmas.{length-plain}
-use Rattle.ansi_columns.proofs.ColumnLemmas.{IsCountedTo, counted-begin, counted-next, counted-end}
+use Rattle.ansi_columns.proofs.ColumnLemmas.{counted-next, counted-end}
 use Rattle.ansi_columns.proofs.PrintableLemmas.{counted-clusters}
 use Rattle.ansi_columns.proofs.widths.walked_width.Goals as goal
-
-pub clusters-init : goal.clusters-init
-clusters-init c =
-    let t = c.args.text.now in
-    let view = c.args.view in
-    record { walk = c.start-walk.ensures.seen view; counted = subst (λ n. IsCountedTo view t n 0) (sym c.start-walk.ensures.position) (counted-begin view t c.utf8.text) }
 
 -- after characters that are clusters by themselves
 

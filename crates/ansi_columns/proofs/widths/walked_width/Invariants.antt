@@ -1,7 +1,6 @@
 use Rattle.std.proofs.Common.{◌-◌, length}
 use Rattle.ansi_items.specs.Plain.{plain}
-use Rattle.ansi_columns.specs.Walks.{IsWalkIn}
-use Rattle.ansi_columns.proofs.ColumnLemmas.{IsCountedTo}
+use Rattle.ansi_columns.specs.Walks.{IsCountedTo, IsWalkIn}
 use Rattle.ansi_columns.proofs.widths.walked_width.Given as goal
 
 -- the number of columns before the walk

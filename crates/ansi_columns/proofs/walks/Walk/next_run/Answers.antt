@@ -38,4 +38,6 @@ returns c =
       walk = λ view is. (next-run view t w _ c.utf8.text is c.requires.some c.requires.bytes refl at).0;
       past = past-run t w _ c.utf8.text c.requires.walk.1 c.requires.some c.requires.bytes refl at;
       last = λ view is. (next-run view t w _ c.utf8.text is c.requires.some c.requires.bytes refl at).1;
+      position = refl;
+      break_state = c.start.ensures;
     }

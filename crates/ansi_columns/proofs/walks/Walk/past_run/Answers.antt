@@ -1,5 +1,6 @@
-use Rattle.std.proofs.Common.{◌≡◌, ◌+◌, ◌-◌, ◌<◌, arith}
-use Rattle.ansi_columns.specs.Walks.{IsPrintable}
+use Rattle.std.proofs.Common.{◌≡◌, ◌+◌, ◌-◌, ◌<◌, [], subst, arith}
+use Rattle.ansi_columns.specs.BreakStates.{break_state_of}
+use Rattle.ansi_columns.specs.Walks.{IsPrintable, IsPastByte}
 use Rattle.ansi_columns.proofs.PrintableLemmas.{IsPrintable-front, printable-shorter}
 use Rattle.ansi_columns.proofs.walks.Walk.past_run.Goals as goal
 
@@ -26,5 +27,14 @@ returns-clause-past c =
       seen = past.seen;
     }
 
-pub returns-clause-last : goal.returns-clause-last
-returns-clause-last c view is = c.next_run-next.ensures.last view is c.past_printable.result (omega (arith, c.past_printable.ensures.position, c.requires.some)) (omega (arith, c.past_printable.ensures.offset, c.requires.some))
+pub returns-clause-next : goal.returns-clause-next
+returns-clause-next c view is some =
+    let w = c.args.self in
+    let t = c.args.text.now in
+    let here = c.past_printable.result in
+    let next = c.next_run-next.result in
+    let more = c.next_run-next.ensures in
+    let place : next.position ≡ here.position + 1 = omega (arith, c.past_printable.ensures.position, more.position, c.requires.some) in
+    let there = more.last view is here (omega (arith, place, more.position)) (omega (arith, c.past_printable.ensures.offset, c.requires.some)) in
+    let state = subst (λ s. IsPastByte view t here (record { position = next.position; offset = next.offset; run_end = next.run_end; break_state = s })) more.break_state there in
+    subst (λ n. IsPastByte view t here (record { position = n; offset = next.offset; run_end = next.run_end; break_state = break_state_of [] })) place state
