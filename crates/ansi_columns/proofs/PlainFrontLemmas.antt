@@ -95,8 +95,9 @@ walk-at {t} {w} {width} {left} {passed} {at} {style = style} {old} {ps} v utf8 s
     let inside : (n : ℕ) → v.offset + n ≤ v.run_end → n ≤ length w = λ n within. omega (arith, within, over.count, offset, run_end) in
     let part : (n : ℕ) → IsPrintableFront t v n → list_all is_printable (take n w) ≡ true
     = λ n bytes. ap (list_all is_printable) (sym (slice_range-take t v.offset n ∙ taken n (inside n bytes.within))) ∙ bytes.bytes in
+    let walk = run-walk Shown front v utf8 pieces printable so_far.bytes over end some place offset run_end (ap (λ (u : Walk). u.break_state) is) in
     record {
-      is_walk = run-walk Shown front v utf8 pieces printable so_far.bytes over end some place offset run_end (ap (λ (u : Walk). u.break_state) is);
+      is_walk = walk;
       front = λ n bytes.
           let within = inside n bytes.within in
           let whole : take (v.offset + n) t ≡ take v.offset t ++ take n w = take-add v.offset n t ∙ ap (λ u. take v.offset t ++ u) (taken n within) in
@@ -109,6 +110,7 @@ walk-at {t} {w} {width} {left} {passed} {at} {style = style} {old} {ps} v utf8 s
           (list_all-append is_plain_piece front (one_text (take n w)) ∙ and_from _ _ so_far.are_plain (one_text-plain (take n w) (part n bytes)))
           (so_far.style_is ∙ sym (style_through-append plain_style front (one_text (take n w)) ∙ one_text-through (style_through plain_style front) (take n w)));
       fitting = λ bytes. subst (λ n. IsFittingTo Shown t width n left) (sym place) (fitting-run t utf8 x y text printable w (plain_of ps) refl some (part 1 bytes) so_far.count);
+      ends = λ ends. fitting-walk t utf8 x y text printable v place walk ends so_far.count;
     }
 
 pub at-run : {t : List ℕ} {width left last : ℕ} {style : Rendition} {old new : Scan} {item : Item} (v : Walk) → IsUtf8 t → IsPlainSoFar t width left style last old.offset (pieces_left old) → GivesItem old item new → old.text ≡ t → item.kind ≡ TextKind

@@ -104,6 +104,19 @@ module _ (view : View) (t : List ℕ) (utf8 : IsUtf8 t) where
   pub ends-none : (v : Walk) → after t v.position ≡ [] → (before : List ℕ) (b : ℕ) → is_grapheme_break true (b ∷ before) (seen_after view t v.position) ≡ true
   ends-none v none before b = ap (is_grapheme_break true (b ∷ before)) (ap (seen view) none ∙ seen-nil view) ∙ breaks-last b before
 
+  -- the same by the byte at the walk
+  pub ends-byte : (v : Walk) → IsWalkIn view t v → v.offset < length t → is_seen_ascii (slice_index t v.offset) ≡ true → (before : List ℕ) (b : ℕ) → is_printable b ≡ true → is_grapheme_break true (b ∷ before) (seen_after view t v.position) ≡ true
+  ends-byte v is some second before b first =
+      let d = slice_index t v.offset in
+      let inside : v.offset < v.run_end = elim (cases_lt v.offset v.run_end) [
+        | inl less ↦ less
+        | inr past ↦ absurd (omega (arith, some, is.end (omega (arith, past, is.run.ordered))))
+      ] in
+      ends-ascii v is d (next-ascii v d (drop (suc v.offset) t) (drop-cons t v.offset 0 some) (seen_ascii-below d second) inside) second before b first
+
+  pub ends-end : (v : Walk) → IsWalkIn view t v → length t ≤ v.offset → (before : List ℕ) (b : ℕ) → is_grapheme_break true (b ∷ before) (seen_after view t v.position) ≡ true
+  ends-end v is past before b = ends-none v (after-end t utf8 v is (omega (arith, past, is.run.ordered, is.run.end_boundary.0))) before b
+
   -- one byte
   module _ (w : Walk) (walk : IsWalkIn view t w) (b : ℕ) (u : List ℕ) (text : drop w.offset t ≡ b ∷ u) (first : is_printable b ≡ true) (inside : w.offset < w.run_end) where
     next : IsNext t w b

@@ -1,17 +1,19 @@
 -- What one pass over a text of a cell, or of a paragraph of one line, finds, if that is printable ASCII and SGRs. No public contract cites it.
-use Rattle.std.specs.Prelude.{◌≡◌, ℕ, ◌+◌, ◌-◌, ◌<◌, List, [], length, take, slice_index, IsTrue}
+use Rattle.std.specs.Prelude.{◌≡◌, ℕ, ◌+◌, ◌-◌, ◌<◌, List, [], length, take, slice_index, IsTrue, MatchOption}
 use Rattle.std.specs.List.{list_all}
 use Rattle.ansi_items.specs.Plain.{plain, marks}
 use Rattle.ansi_style.specs.declared.state.rendition.Rendition.{Rendition}
+use Rattle.ansi_style.specs.States.{rendition_of}
 use Rattle.ansi_style.specs.Styled.{style_after}
 use Rattle.ansi_safe.specs.Cells.{cell}
 use Rattle.ansi_safe.specs.Links.{link_of}
 use Rattle.ansi_safe.specs.Safe.{is_printable_byte}
 use Rattle.ansi_columns.specs.declared.views.View.TheVariants.{Shown}
+use Rattle.ansi_columns.specs.declared.plain_cells.PlainFront.{PlainFront}
 use Rattle.ansi_columns.specs.declared.walks.Walk.{Walk}
 use Rattle.ansi_columns.specs.Columns.{columns}
 use Rattle.ansi_columns.specs.Views.{seen_len, seen_text}
-use Rattle.ansi_columns.specs.Walks.{IsWalkIn, IsPrintableFront, IsPastAscii, IsFittingTo, SeesUpTo}
+use Rattle.ansi_columns.specs.Walks.{IsWalkIn, IsPrintableFront, IsPastAscii, IsFittingTo, SeesUpTo, EndsAscii}
 
 -- The text stays as it is in a cell. This style is open at its end, and no link.
 pub record IsPlainText (t : List ℕ) (style : Rendition) : Type 0 where
@@ -30,11 +32,16 @@ pub record IsPlainCell (t : List ℕ) (width left : ℕ) (style : Rendition) (la
   pub printable : IsTrue (list_all is_printable_byte (plain t))
   pub last_is : last ≡ last_byte (plain t)
 
--- The text before a walk is such a text, also with printable ASCII of the walk's run. If the run begins with printable ASCII, the text before it fits and leaves this many columns.
+-- The text before a walk is such a text, also with printable ASCII of the walk's run. If the run begins with printable ASCII, or a cluster that ends in that ends there, the text before it fits and leaves this many columns.
 pub record IsAtRun (t : List ℕ) (width left : ℕ) (style : Rendition) (walk : Walk) : Type 0 where
   pub is_walk : IsWalkIn Shown t walk
   pub front : (n : ℕ) → IsPrintableFront t walk n → IsPlainText (take (walk.offset + n) t) style
   pub fitting : IsPrintableFront t walk 1 → IsFittingTo Shown t width walk.position left
+  pub ends : EndsAscii t walk → IsFittingTo Shown t width walk.position left
+
+-- What a pass over the front of a text finds.
+abbrev pub IsFront : List ℕ → ℕ → PlainFront → Type 0
+IsFront t width front = MatchOption front.run (IsPlainCell t width front.left (rendition_of front.style) front.last) (IsAtRun t width front.left (rendition_of front.style))
 
 -- The text before a walk is such a text and fits, and so it is with printable ASCII of the walk's run. More of that follows than the columns that it leaves, so all of the text doesn't fit.
 pub record IsPlainBefore (t : List ℕ) (width left : ℕ) (style : Rendition) (walk : Walk) : Type 0 where

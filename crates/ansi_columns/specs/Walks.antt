@@ -10,6 +10,7 @@ use Rattle.unicode_segmentation.specs.Grapheme.{is_grapheme_break}
 use Rattle.unicode_segmentation.specs.Segments.{cut}
 use Rattle.ansi_columns.specs.declared.walks.Run.{Run}
 use Rattle.ansi_columns.specs.declared.walks.Walk.{Walk}
+use Rattle.ansi_columns.specs.declared.fits.Fitted.{Fitted}
 use Rattle.ansi_columns.specs.declared.views.View.{View}
 use Rattle.ansi_columns.specs.declared.views.View.TheVariants.{Given}
 use Rattle.ansi_columns.specs.BreakStates.{break_state_of}
@@ -187,6 +188,11 @@ pub record IsFittingTo (view : View) (t : List ℕ) (width n left : ℕ) : Type 
   pub all : clusters (seen_text view t) ≡ front ++ seen_clusters view t n
   pub boundary : seen_len view t n ≡ bytes_of front
   pub columns : columns_of front + left ≡ width
+
+-- The text up to a walk fits, and leaves this number of columns.
+pub record IsFitted (view : View) (t : List ℕ) (width : ℕ) (to : Fitted) : Type 0 where
+  pub walk : IsWalkIn view t to.walk
+  pub fitting : IsFittingTo view t width to.walk.position to.left
 
 -- What is seen before the byte `end` is the clusters that fit. Before a later character boundary more is seen.
 pub record SeesUpTo (view : View) (t : List ℕ) (width end : ℕ) : Type 0 where

@@ -6,16 +6,19 @@ ghost use Rattle.std.specs.List.{list_all};
 ghost use Rattle.ansi_style.specs.States.{rendition_of};
 ghost use Rattle.ansi_safe.specs.Safe.{is_printable_byte};
 ghost use Rattle.ansi_columns.specs.declared.walks.Walk.{Walk};
-ghost use Rattle.ansi_columns.specs.PlainCells.{IsPlainCell, IsAtRun, IsPlainBefore, IsPlainCut};
-ghost use Rattle.ansi_columns.specs.Walks.{IsAnyWalk, IsPastAscii};
+ghost use Rattle.ansi_columns.specs.PlainCells.{IsFront, IsPlainCell, IsPlainBefore, IsPlainCut};
+ghost use Rattle.ansi_columns.specs.declared.views.View.{View};
+ghost use Rattle.ansi_columns.specs.Walks.{IsAnyWalk, IsPastAscii, IsFitted};
 
+use crate::fits::Fitted;
 use crate::walks::Walk;
 use ansi_items::ansitok::{Kind, Scanner};
 use ansi_safe::printable::printable_len;
 use ansi_style::state::Style;
 use ansi_style::styles;
 
-/// The front of a text of a cell, up to the first run that doesn't fit. It stays as it is.
+/// The front of a text of a cell, up to the first run that doesn't fit, or isn't printable ASCII. It
+/// stays as it is.
 #[derive(Clone, Copy)]
 pub(crate) struct PlainFront {
     /// The columns of the width that the front leaves.
@@ -24,8 +27,7 @@ pub(crate) struct PlainFront {
     pub(crate) style: Style,
     /// The last byte of its plain text, or 0 if that is empty.
     pub(crate) last: u8,
-    /// The walk at the run, which has more bytes than columns are left. `None` if the front is the
-    /// whole text.
+    /// The walk at the run. `None` if the front is the whole text.
     pub(crate) run: Option<Walk>,
 }
 
@@ -44,9 +46,7 @@ fn is_ascii(bytes: &[u8]) -> bool {
     match bytes.len() {
         0..=7 => bytes.iter().all(|b| *b < 0x80),
         8..=15 => is_ascii_8(bytes) && is_ascii_8(&bytes[bytes.len() - 8..]),
-        _ => {
-            bytes.chunks_exact(16).all(is_ascii_16) && is_ascii_16(&bytes[bytes.len() - 16..])
-        }
+        _ => { bytes.chunks_exact(16).all(is_ascii_16) && is_ascii_16(&bytes[bytes.len() - 16..]) }
     }
 }
 
@@ -106,12 +106,10 @@ pub(crate) fn plain_cell(text: &str, width: usize) -> Option<PlainFront>
     }
 }
 
-/// The front of a text of a cell, if that is printable ASCII and select graphic renditions alone.
-/// `None` says nothing. Of the run that doesn't fit, nothing is tested.
-fn plain_runs(text: &str, width: usize) -> Option<PlainFront>
-    ensures { IfSome result (λ f. MatchOption f.run
-        (IsPlainCell text.now width f.left (rendition_of f.style) f.last)
-        (IsAtRun text.now width f.left (rendition_of f.style))) }
+/// The front of a text of a cell, up to the first run that doesn't fit or isn't printable ASCII.
+/// `None` says nothing. Of a run that has more bytes than columns are left, nothing is tested.
+pub(crate) fn plain_runs(text: &str, width: usize) -> Option<PlainFront>
+    ensures { IfSome result (IsFront text.now width) }
 {
     if LONGEST < text.len() {
         return None;
@@ -128,7 +126,7 @@ fn plain_runs(text: &str, width: usize) -> Option<PlainFront>
         if item.kind != Kind::Text {
             return None;
         }
-        if left < piece.len() {
+        if left < piece.len() || !is_printable(text, item.start, item.end) {
             let run = Walk::at_run(&item, width - left);
             return Some(PlainFront {
                 left,
@@ -136,9 +134,6 @@ fn plain_runs(text: &str, width: usize) -> Option<PlainFront>
                 last,
                 run: Some(run),
             });
-        }
-        if !is_printable(text, item.start, item.end) {
-            return None;
         }
         left -= piece.len();
         last = piece.as_bytes()[piece.len() - 1];
@@ -151,14 +146,37 @@ fn plain_runs(text: &str, width: usize) -> Option<PlainFront>
     })
 }
 
+/// The longest known prefix of a text that fits, after what `plain_runs` returned for `width`.
+pub(crate) fn fitted(text: &str, width: usize, front: &Option<PlainFront>) -> Fitted
+    requires { IfSome front.now (IsFront text.now width) }
+    ensures { IsFitted View.Shown text.now width result }
+{
+    let Some(front) = front else {
+        return Fitted::start(text, width);
+    };
+    let Some(walk) = front.run else {
+        return Fitted::start(text, width);
+    };
+    if walk.ends_ascii(text) {
+        return Fitted {
+            walk,
+            left: front.left,
+        };
+    }
+    Fitted::start(text, width)
+}
+
 /// Whether more than `count` bytes of printable ASCII come next in a run, each of them a cluster by
 /// itself. `false` says nothing.
-fn goes_past(text: &str, run: Walk, count: usize) -> bool
+pub(crate) fn goes_past(text: &str, run: Walk, count: usize) -> bool
     requires { IsAnyWalk text.now run }
     ensures { IsTrue result → (n : ℕ) × (count < n)
         × (later : Walk) × IsPastAscii text.now run n later }
 {
-    count < run.past_ascii(text, count.saturating_add(1)).1
+    if run.run_end - run.offset <= count {
+        return false;
+    }
+    count < run.past_ascii(text, count + 1).1
 }
 
 /// Where what fits of a text of a cell ends.

@@ -19,10 +19,11 @@ ghost use Rattle.ansi_columns.specs.Shown.{truncated, KeptStays};
 ghost use Rattle.ansi_columns.specs.Shown.{missing, before_text, blanks, between_blanks, closing};
 ghost use Rattle.ansi_columns.specs.Shown.{padded};
 ghost use Rattle.ansi_columns.specs.BreakStates.{break_state_of};
-ghost use Rattle.ansi_columns.specs.Walks.{IsWalkIn, SeesUpTo};
+ghost use Rattle.ansi_columns.specs.PlainCells.{IsFront};
+ghost use Rattle.ansi_columns.specs.Walks.{IsWalkIn, IsFitted, SeesUpTo};
 
-use crate::fits::fitting_front;
-use crate::plain_cells::{plain_cell, plain_cut, plain_front};
+use crate::fits::{Fitted, fitting_front, fitting_front_from};
+use crate::plain_cells::{PlainFront, fitted, goes_past, plain_cell, plain_cut, plain_runs};
 use crate::views::View;
 use crate::walks::{Walk, first_run};
 use crate::widths;
@@ -113,10 +114,13 @@ pub(crate) fn truncated_parts<'t, 'a, A: Allocator>(
         × (closing (truncated (cell text.now) width tail.entry.now) ≡ []))) }
     ensures takes_no_memory { KeptStays text.now width tail.entry.now → IsOk result }
 {
-    if let Some(plain) = plain_parts(text, width, tail) {
+    let runs = plain_runs(text, width);
+    if let Some(front) = &runs
+        && let Some(plain) = plain_parts(text, width, tail, front)
+    {
         return Ok(plain);
     }
-    let cut = truncation(text, width, tail);
+    let cut = truncation(text, width, tail, fitted(text, width, &runs));
     let front = cell_of(alloc, &text[..cut.end.offset])?;
     let ending = pen_after(front.as_str()).ending();
     Ok(TruncatedParts {
@@ -128,12 +132,14 @@ pub(crate) fn truncated_parts<'t, 'a, A: Allocator>(
 }
 
 /// The parts of a text of a cell that is truncated, if what is kept of it is printable ASCII and
-/// select graphic renditions alone. `None` says nothing.
+/// select graphic renditions alone. `front` is what `plain_runs` returned. `None` says nothing.
 fn plain_parts<'t, 'a, A: Allocator>(
     text: &'t str,
     width: usize,
     tail: &'a str,
+    front: &PlainFront,
 ) -> Option<TruncatedParts<'t, 'a, A>>
+    requires { IsFront text.now width front.now }
     ensures bytes { IfSome result (λ p. (cow_str_bytes p.front
         ++ (p.ending.link_end.now ++ close (rendition_of p.ending.style))) ++ p.tail.now
         ≡ truncated (cell text.now) width tail.entry.now) }
@@ -149,20 +155,22 @@ fn plain_parts<'t, 'a, A: Allocator>(
         (n ≡ missing (truncated (cell text.now) width tail.entry.now) width)
         × (closing (truncated (cell text.now) width tail.entry.now) ≡ []))) }
 {
-    let plain = plain_front(text, width)?;
-    let Some(run) = plain.run else {
+    let Some(run) = front.run else {
         return Some(TruncatedParts {
             front: CowStr::Borrowed(text),
             ending: Ending {
                 link_end: "",
-                style: plain.style,
+                style: front.style,
             },
             tail: "",
-            missing: Some(plain.left),
+            missing: Some(front.left),
         });
     };
+    if !goes_past(text, run, front.left) {
+        return None;
+    }
     let (room, tail) = beside(width, tail);
-    let cut = plain_cut(text, width, &plain, run, room)?;
+    let cut = plain_cut(text, width, front, run, room)?;
     Some(TruncatedParts {
         front: CowStr::Borrowed(&text[..cut.end.offset]),
         ending: Ending {
@@ -186,7 +194,10 @@ struct Cut<'a> {
 }
 
 /// Where the text of a cell is cut, and the tail that is written after it.
-fn truncation<'a>(text: &str, width: usize, tail: &'a str) -> Cut<'a>
+///
+/// `from` is a prefix that fits.
+fn truncation<'a>(text: &str, width: usize, tail: &'a str, from: Fitted) -> Cut<'a>
+    requires { IsFitted View.Shown text.now width from }
     ensures walk { IsWalkIn View.Shown text.now result.end }
     ensures fits { SeesUpTo View.Shown text.now
         (truncated_width (cell text.now) width tail.entry.now) result.end.position }
@@ -196,7 +207,7 @@ fn truncation<'a>(text: &str, width: usize, tail: &'a str) -> Cut<'a>
         (n ≡ missing (truncated (cell text.now) width tail.entry.now) width)
         × (closing (truncated (cell text.now) width tail.entry.now) ≡ [])) }
 {
-    let whole = fitting_front(text, width, View::Shown);
+    let whole = fitting_front_from(text, width, View::Shown, from);
     let alone = Cut {
         end: whole.walk,
         tail: "",

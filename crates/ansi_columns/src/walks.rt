@@ -403,13 +403,24 @@ impl Walk {
         requires { IsAnyWalk text.now self }
         ensures { IsTrue result → EndsAscii text.now self }
     {
-        let Some(next) = self.next_char(text) else {
-            return true;
-        };
-        if is_tab_or_feed(next) {
+        if text.len() <= self.offset {
             return true;
         }
-        is_single(next)
+        if is_seen_ascii(text.as_bytes()[self.offset]) {
+            return true;
+        }
+        self.is_before_single(text)
+    }
+
+    /// Whether a character of which `is_single` is true comes next.
+    fn is_before_single(self, text: &str) -> bool
+        requires { IsAnyWalk text.now self }
+        ensures { IsTrue result → EndsAscii text.now self }
+    {
+        match self.next_char(text) {
+            Some(next) => is_single(next),
+            None => false,
+        }
     }
 
     /// How many bytes of printable ASCII come next in the run, at most `most`.
@@ -561,14 +572,6 @@ fn is_seen_ascii(byte: u8) -> bool
     ensures { result ≡ is_seen_ascii byte }
 {
     matches!(byte, 0x20..=0x7E | b'\t' | b'\n')
-}
-
-/// Whether the character is TAB or LF. Something of them is seen in any view.
-#[inline(always)]
-fn is_tab_or_feed(c: char) -> bool
-    ensures { IsTrue result → IsTrue (is_seen_ascii c) }
-{
-    matches!(c, '\t' | '\n')
 }
 
 /// The columns of a cluster of one character.

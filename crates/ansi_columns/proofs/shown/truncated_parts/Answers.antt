@@ -19,28 +19,28 @@ returns-in_err-front-clause-takes_no_memory g c =
     let kept = kept-part c.args.text.now c.utf8.text c.truncation-cut.result.end c.args.width c.args.tail.now end.walk end.fits c.range.ensures.value in
     λ all. absurd (false≢true (rw c.in_err-front.was at (c.cell_of.ensures.takes_no_memory (subst (λ u. cell u ≡ u) (sym kept) all))))
 
-pub returns-clause-bytes : goal.returns-clause-bytes
-returns-clause-bytes g c =
+pub returns-2-clause-bytes : goal.returns-2-clause-bytes
+returns-2-clause-bytes g c =
     let end = c.truncation-cut.ensures in
     let pen = c.pen_after.ensures in
     cut-bytes (truncated-front c.args.text.now c.utf8.text c.truncation-cut.result.end c.args.width c.args.tail.now end.walk end.fits c.range.ensures.value c.in_ok-front.ensures.bytes c.as_str.ensures.value pen.style pen.link c.ending-ending.ensures.link_end (ap rendition_of c.ending-ending.ensures.style) end.tail).cut
 
-pub returns-clause-ending : goal.returns-clause-ending
-returns-clause-ending g c =
+pub returns-2-clause-ending : goal.returns-2-clause-ending
+returns-2-clause-ending g c =
     let end = c.truncation-cut.ensures in
     let pen = c.pen_after.ensures in
     cut-ending (truncated-front c.args.text.now c.utf8.text c.truncation-cut.result.end c.args.width c.args.tail.now end.walk end.fits c.range.ensures.value c.in_ok-front.ensures.bytes c.as_str.ensures.value pen.style pen.link c.ending-ending.ensures.link_end (ap rendition_of c.ending-ending.ensures.style) end.tail).cut
 
-pub returns-clause-borrowed : goal.returns-clause-borrowed
+pub returns-2-clause-borrowed : goal.returns-2-clause-borrowed
 unfolding KeptStays
-returns-clause-borrowed g c =
+returns-2-clause-borrowed g c =
     let end = c.truncation-cut.ensures in
     let kept = kept-part c.args.text.now c.utf8.text c.truncation-cut.result.end c.args.width c.args.tail.now end.walk end.fits c.range.ensures.value in
     let borrowed = c.in_ok-front.ensures.borrowed in
     (λ b. subst (λ u. cell u ≡ u) kept (borrowed.0 b), λ stays. borrowed.1 (subst (λ u. cell u ≡ u) (sym kept) stays))
 
-pub returns-clause-len : goal.returns-clause-len
-returns-clause-len g c =
+pub returns-2-clause-len : goal.returns-2-clause-len
+returns-2-clause-len g c =
     let t = c.args.text.now in
     let end = c.truncation-cut.ensures in
     let pen = c.pen_after.ensures in

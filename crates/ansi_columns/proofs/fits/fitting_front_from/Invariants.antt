@@ -1,7 +1,7 @@
 use Rattle.std.proofs.Common.{◌-◌, length}
 use Rattle.ansi_items.specs.Plain.{plain}
 use Rattle.ansi_columns.specs.Walks.{IsWalkIn, IsFittingTo}
-use Rattle.ansi_columns.proofs.fits.fitting_front.Given as goal
+use Rattle.ansi_columns.proofs.fits.fitting_front_from.Given as goal
 
 -- the text before the walk fits, and leaves this number of columns
 abbrev pub invariant-clusters : goal.invariant-clusters
