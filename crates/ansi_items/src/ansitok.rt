@@ -32,8 +32,9 @@ pub enum AnsiColor {
 pub enum Kind {
     /// A run of plain text up to the next ESC or the end of the text.
     Text,
-    /// Select graphic rendition: a control sequence with no intermediate byte and the final byte
-    /// `m` (ECMA-48, section 8.3.117).
+    /// Select graphic rendition: a control sequence with no intermediate byte, the final byte `m`,
+    /// and parameter bytes that aren't for private use, so the first of them, if there is one, is
+    /// none of 3C to 3F (ECMA-48, sections 5.4.2 and 8.3.117).
     Sgr,
     /// Any other control sequence, control string or escape sequence (ECMA-48, ECMA-35).
     Other,
