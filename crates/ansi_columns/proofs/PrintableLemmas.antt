@@ -19,8 +19,9 @@ use Rattle.ansi_safe.specs.Safe.{is_printing}
 use Rattle.ansi_columns.specs.BreakStates.{break_state_of, IsSingle}
 use Rattle.ansi_columns.specs.Columns.{cluster_width, columns_of, bytes_of}
 use Rattle.ansi_columns.specs.declared.views.View.{View}
+use Rattle.ansi_columns.specs.declared.views.View.TheVariants.{Given, Shown}
 use Rattle.ansi_columns.specs.Views.{seen_char, seen, seen_len}
-use Rattle.ansi_columns.specs.Walks.{IsRun, IsPrintableFront, IsPastAscii, after, cluster, clusters_after, seen_before, seen_after, seen_cluster, seen_clusters, is_seen_ascii, IsWalkIn, IsNext, IsPrintable, AreClustersIn, IsFittingTo, IsPastClusters, IsPastLast, IsCountedTo, EndsAscii, has_width}
+use Rattle.ansi_columns.specs.Walks.{IsRun, IsPrintableFront, IsPastAscii, after, cluster, clusters_after, seen_before, seen_after, seen_cluster, seen_clusters, is_seen_ascii, IsWalkIn, IsNext, IsPrintable, AreClustersIn, IsFittingTo, IsPastClusters, IsPastLast, IsCountedTo, EndsAscii, BreaksAfterAscii, has_width}
 use Rattle.ansi_columns.proofs.AsciiLemmas.{is_printable, printable-below_7F, All-printable_is_ascii, break_state-printable, breaks-before_ascii, width-single, IsSingle-printable}
 use Rattle.ansi_columns.proofs.UnnamedLemmas.{breaks-single}
 use Rattle.ansi_columns.proofs.OrdinaryLemmas.{seen_after-printing}
@@ -42,6 +43,10 @@ seen_ascii-below b is = grind (arith, nat_tests)
 
 pub slice_range-take : (t : List ℕ) (a n : ℕ) → slice_range t a (a + n) ≡ take n (drop a t)
 slice_range-take t a n = (let same : a + n - a ≡ n = omega arith in ap (λ m. take m (drop a t)) same)
+
+seen-any : (view : View) (c : ℕ) → seen_char Shown c ≡ c ∷ [] → seen_char view c ≡ c ∷ []
+seen-any Given c is = refl
+seen-any Shown c is = is
 
 -- the walk after n bytes of printable ASCII
 abbrev pub advanced : Walk → ℕ → Walk
@@ -99,6 +104,12 @@ module _ (view : View) (t : List ℕ) (utf8 : IsUtf8 t) where
   ends-single v is d next single printing before b first =
       let then_is = seen_after-printing view t utf8 v is d next printing in
       ap (is_grapheme_break true (b ∷ before)) then_is.1 ∙ breaks-single before b d then_is.0 (IsSingle-printable b first) single
+
+  -- so it does before any other that breaks after it
+  pub ends-breaking : (v : Walk) → IsWalkIn view t v → (d : ℕ) → IsNext t v d → BreaksAfterAscii d → (before : List ℕ) (b : ℕ) → is_printable b ≡ true → is_grapheme_break true (b ∷ before) (seen_after view t v.position) ≡ true
+  ends-breaking v is d next breaking before b first =
+      let then_is = next-seen v is d d next (seen-any view d breaking.seen) in
+      ap (is_grapheme_break true (b ∷ before)) then_is.1 ∙ breaking.breaks (b ∷ before) then_is.0 (λ none. cc) (break_state-printable b before first)
 
   -- and if nothing follows
   pub ends-none : (v : Walk) → after t v.position ≡ [] → (before : List ℕ) (b : ℕ) → is_grapheme_break true (b ∷ before) (seen_after view t v.position) ≡ true

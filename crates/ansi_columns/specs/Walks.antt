@@ -1,5 +1,5 @@
 -- The state of a walk over the characters of a plain text. No public contract cites it.
-use Rattle.std.specs.Prelude.{◌≡◌, ℕ, ◌+◌, ◌*◌, ◌-◌, ◌<◌, ◌≤◌, ◌==◌, ◌||◌, Bool, true, List, [], ◌∷◌, ◌++◌, length, take, drop, reverse, slice_index, slice_range, encode_utf8, chars, nat_lt, IsTrue}
+use Rattle.std.specs.Prelude.{◌≡◌, ◌≢◌, ℕ, ◌+◌, ◌*◌, ◌-◌, ◌<◌, ◌≤◌, ◌==◌, ◌||◌, Bool, true, List, [], ◌∷◌, ◌++◌, length, take, drop, reverse, slice_index, slice_range, encode_utf8, chars, nat_lt, IsTrue}
 use Rattle.std.specs.List.{list_all}
 use Rattle.std.specs.Str.{byte, IsCharBoundary}
 use Rattle.ansi_items.specs.Bytes.{is_plain_byte}
@@ -12,7 +12,7 @@ use Rattle.ansi_columns.specs.declared.walks.Run.{Run}
 use Rattle.ansi_columns.specs.declared.walks.Walk.{Walk}
 use Rattle.ansi_columns.specs.declared.fits.Fitted.{Fitted}
 use Rattle.ansi_columns.specs.declared.views.View.{View}
-use Rattle.ansi_columns.specs.declared.views.View.TheVariants.{Given}
+use Rattle.ansi_columns.specs.declared.views.View.TheVariants.{Given, Shown}
 use Rattle.ansi_columns.specs.BreakStates.{break_state_of}
 use Rattle.ansi_columns.specs.Columns.{clusters, cluster_width, columns, columns_of, bytes_of, FitsUpTo}
 use Rattle.ansi_columns.specs.Views.{seen_char, seen, seen_text, seen_len}
@@ -171,6 +171,11 @@ pub record IsPastAscii (t : List ℕ) (from : Walk) (n : ℕ) (later : Walk) : T
   pub position : later.position ≡ from.position + n
   pub clusters : (view : View) → AreClustersIn view t from.position (slice_range t from.offset (from.offset + n))
   pub seen : (view : View) → seen_len view t later.position ≡ seen_len view t from.position + n
+
+-- the character is seen as it is, and a cluster ends before it if it follows printable ASCII
+pub record BreaksAfterAscii (c : ℕ) : Type 0 where
+  pub seen : seen_char Shown c ≡ c ∷ []
+  pub breaks : (before rest : List ℕ) → before ≢ [] → break_state_of [] ≡ break_state_of before → is_grapheme_break true before (c ∷ rest) ≡ true
 
 -- This number of columns is before a position.
 pub record IsCountedTo (view : View) (t : List ℕ) (n total : ℕ) : Type 0 where

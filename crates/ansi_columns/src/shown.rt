@@ -396,6 +396,9 @@ const BLANKS: &str = "                                                          
 pub(crate) fn push_blanks<A: Allocator>(out: &mut String<A>, count: usize) -> Result<(), AllocError>
     ensures { OnOk result (string_bytes out.new ≡ string_bytes out.old ++ blanks count) }
 {
+    if count == 0 {
+        return Ok(());
+    }
     out.reserve(count)?;
     let mut left = count;
     while BLANKS.len() < left {

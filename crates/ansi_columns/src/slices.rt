@@ -17,7 +17,7 @@ ghost use Rattle.ansi_columns.specs.Walks.{IsWalk, clusters_from};
 
 use crate::shown::push_blanks;
 use crate::views::View;
-use crate::walks::Walk;
+use crate::walks::{Run, Walk};
 use ansi_safe::cells::cell_of;
 use ansi_safe::links::{Pen, pen_after, pen_after_from};
 use ansi_slice::slice::push_sequences;
@@ -221,15 +221,17 @@ fn has_column(text: &str, from: Walk) -> bool
     requires { IsWalk text.now from }
     ensures { result ≡ nat_lt 0 (columns_of (clusters_from text.now from.position)) }
 {
-    if 0 < from.past_singles(text, 2, View::Given).1 {
+    let (_, len, mut run) = from.past_ascii(text, 1);
+    if 0 < len {
         return true;
     }
     let mut walk = from;
-    'clusters: while let Some((next, width)) = walk.next_cluster(text, View::Given) {
+    'clusters: while let Some((next, width)) = walk.next_cluster_before(text, run, View::Given) {
         if width > 0 {
             return true;
         }
         walk = next;
+        run = Run::NONE;
     }
     false
 }

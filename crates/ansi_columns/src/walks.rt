@@ -1,6 +1,6 @@
 //! A walk over the clusters of a plain text, and the width of each cluster.
 ghost use Rattle.std.specs.Prelude.{◌≡◌, ◌+◌, ◌*◌, ◌-◌, ◌^◌, ◌<◌, ◌≤◌, [], ◌∷◌, length, encode_utf8};
-ghost use Rattle.std.specs.Prelude.{ℕ, List, ◌++◌, slice_range, MatchOption, IfSome, IsTrue};
+ghost use Rattle.std.specs.Prelude.{ℕ, List, ◌++◌, slice_range, MatchOption, IfSome, IsSomeAnd, IsTrue};
 ghost use Rattle.std.specs.List.{list_all};
 ghost use Rattle.ansi_search.specs.Offsets.{offset_of};
 ghost use Rattle.ansi_safe.specs.Safe.{is_printable_byte};
@@ -11,7 +11,7 @@ ghost use Rattle.ansi_columns.specs.Views.{seen_len};
 ghost use Rattle.ansi_columns.specs.Walks.{before, after, seen_before, seen_after, seen_cluster};
 ghost use Rattle.ansi_columns.specs.Walks.{IsRun, IsWalkIn, IsWalk, IsAnyWalk, IsNext, IsPastCluster, IsPastClusters};
 ghost use Rattle.ansi_columns.specs.Walks.{IsSeenNext, IsPrintable, IsPrintableFront, AreClustersIn, IsPastAscii, is_seen_ascii};
-ghost use Rattle.ansi_columns.specs.Walks.{IsPastFirst, IsPastLast, IsNextRun, EndsAscii, walk_at, walk_at_run};
+ghost use Rattle.ansi_columns.specs.Walks.{IsPastFirst, IsPastLast, IsNextRun, EndsAscii, BreaksAfterAscii, walk_at, walk_at_run};
 
 use crate::break_state::{BreakState, is_single};
 use crate::from_end;
@@ -95,7 +95,7 @@ impl Walk {
     {
         let (start, first) = self.next_seen(text, view);
         let first = first?;
-        Some(self.cluster_from(text, first, start.past(text, first), view))
+        self.cluster_from(text, first, start.past(text, first), view)
     }
 
     /// The same. If `next` is a run, the cluster begins with a byte of printable ASCII, and the run is
@@ -115,17 +115,18 @@ impl Walk {
         if next.end == 0 {
             return self.next_cluster(text, view);
         }
-        Some(self.cluster_over(text, next, view))
+        self.cluster_over(text, next, view)
     }
 
     /// The walk after the next cluster, and its columns. The cluster begins with a byte of printable
-    /// ASCII, which is the last one before the run `next`.
-    #[inline(never)]
-    fn cluster_over(self, text: &str, next: Run, view: View) -> (Walk, usize)
+    /// ASCII, which is the last one before the run `next`. It is never `None`.
+    #[inline(always)]
+    fn cluster_over(self, text: &str, next: Run, view: View) -> Option<(Walk, usize)>
         requires walk { IsWalkIn view text.now self }
         requires some { 0 < next.end }
         requires next { IsNextRun view text.now self next }
-        ensures { IsPastCluster view text.now self result.0 result.1 }
+        ensures { IsSomeAnd result (λ (walk, width).
+            IsPastCluster view text.now self walk width) }
     {
         let first = char::from(text.as_bytes()[self.offset]);
         self.cluster_from(text, first, self.at(next), view)
@@ -146,12 +147,19 @@ impl Walk {
     }
 
     /// The walk after the next cluster that is seen, and its columns. `after_first` is the walk after
-    /// the first character of it.
+    /// the first character of it. It is never `None`.
     #[inline(always)]
-    fn cluster_from(self, text: &str, first: char, after_first: Walk, view: View) -> (Walk, usize)
+    fn cluster_from(
+        self,
+        text: &str,
+        first: char,
+        after_first: Walk,
+        view: View,
+    ) -> Option<(Walk, usize)>
         requires walk { IsWalkIn view text.now self }
         requires first { IsPastFirst view text.now self first after_first }
-        ensures { IsPastCluster view text.now self result.0 result.1 }
+        ensures { IsSomeAnd result (λ (walk, width).
+            IsPastCluster view text.now self walk width) }
     {
         let mut walk = after_first;
         'cluster: while let (here, Some(next)) = walk.next_seen(text, view) {
@@ -165,7 +173,7 @@ impl Walk {
         } else {
             self.width_up_to(text, &walk, view)
         };
-        (walk, width)
+        Some((walk, width))
     }
 
     /// The walk after the next character and the columns of that character, if it and the one after
@@ -245,11 +253,12 @@ impl Walk {
         ensures most { result.1 ≤ most }
     {
         let (walk, len, next) = self.past_run(text);
-        if 0 < next.end {
-            let (after, width) = walk.cluster_over(text, next, view);
-            if 0 < width && width <= most - len {
-                return (after, len + width);
-            }
+        if 0 < next.end
+            && let Some((after, width)) = walk.cluster_over(text, next, view)
+            && 0 < width
+            && width <= most - len
+        {
+            return (after, len + width);
         }
         (walk, len)
     }
@@ -409,18 +418,23 @@ impl Walk {
         if is_seen_ascii(text.as_bytes()[self.offset]) {
             return true;
         }
-        self.is_before_single(text)
+        self.is_before_break(text)
     }
 
-    /// Whether a character of which `is_single` is true comes next.
-    fn is_before_single(self, text: &str) -> bool
+    /// Whether a cluster that ends in printable ASCII ends before the next character, and that is seen
+    /// as it is.
+    #[inline(always)]
+    fn is_before_break(self, text: &str) -> bool
         requires { IsAnyWalk text.now self }
         ensures { IsTrue result → EndsAscii text.now self }
     {
-        match self.next_char(text) {
-            Some(next) => is_single(next),
-            None => false,
+        let Some(next) = self.next_char(text) else {
+            return false;
+        };
+        if is_single(next) {
+            return true;
         }
+        breaks_after_ascii(next)
     }
 
     /// How many bytes of printable ASCII come next in the run, at most `most`.
@@ -572,6 +586,21 @@ fn is_seen_ascii(byte: u8) -> bool
     ensures { result ≡ is_seen_ascii byte }
 {
     matches!(byte, 0x20..=0x7E | b'\t' | b'\n')
+}
+
+/// Whether a cluster that ends in printable ASCII ends before a character, and that is seen as it is in
+/// any view.
+#[inline(never)]
+fn breaks_after_ascii(c: char) -> bool
+    ensures { IsTrue result → BreaksAfterAscii c }
+{
+    let Some(seen) = View::Shown.see(c) else {
+        return false;
+    };
+    if seen != c {
+        return false;
+    }
+    BreakState::start().ends_before(c)
 }
 
 /// The columns of a cluster of one character.
