@@ -3,6 +3,7 @@ use super::{FakeDevices, Plan, Ran, at_call, expect, expect_end, owned};
 use ansi_io::fake_device::Outcome;
 use ansi_view_runs::runs::run;
 use std::alloc::{AllocError, Global};
+use std::process::Abort;
 
 // A run without words.
 fn view_with(alloc: Global, bytes: &[u8], plan: Plan) -> Result<Ran, AllocError> {
@@ -44,15 +45,37 @@ fn a_closed_output_is_no_fault(rt: HostRuntime) -> Result<(), AllocError> {
     Ok(())
 }
 
+// A word, an input of two lines, and what the first line becomes.
+type FirstLine = (&'static str, &'static str, &'static str);
+
+// The first four lines stay as they were read, and the others don't.
+static FIRST_LINES: [FirstLine; 8] = [
+    ("plain", "a\nb\n", "a\n"),
+    ("truncate:5", "a\nb\n", "a\n"),
+    ("pad:1", "a\nb\n", "a\n"),
+    ("wrap:5", "a\nb\n", "a\n"),
+    ("plain", "\x1b[31ma\x1b[39m\nb\n", "a\n"),
+    ("truncate:1", "ab\nb\n", "a\n"),
+    ("pad:3", "a\nb\n", "a  \n"),
+    ("wrap:1", "a b\nc\n", "a\nb\n"),
+];
+
+// Checks that the first write has the whole first line, by a run whose second write fails.
+fn expect_at_once(rt: &impl Abort, alloc: Global, row: &FirstLine) -> Result<(), AllocError> {
+    let (word, text, line) = *row;
+    let words = owned(alloc, &[word])?;
+    let mut plan = Plan::new(alloc);
+    plan.output = at_call(alloc, 1, Outcome::Failed)?;
+    let ran = view_by(alloc, words.as_slice(), text.as_bytes(), plan)?;
+    expect_end(rt, &ran, 4, line, "write failed: other error\n", row);
+    expect(rt, ran.output_left == 0, "the calls", row);
+    Ok(())
+}
+
 #[test]
 fn a_line_that_is_stripped_or_edited_is_written_at_once(rt: HostRuntime) -> Result<(), AllocError> {
-    for word in ["plain", "truncate:5", "pad:1", "wrap:5"] {
-        let words = owned(rt.alloc(), &[word])?;
-        let mut plan = Plan::new(rt.alloc());
-        plan.output = at_call(rt.alloc(), 1, Outcome::Failed)?;
-        let ran = view_by(rt.alloc(), words.as_slice(), b"a\nb\n", plan)?;
-        expect_end(&rt, &ran, 4, "a\n", "write failed: other error\n", word);
-        expect(&rt, ran.output_left == 0, "the calls", word);
+    for row in &FIRST_LINES {
+        expect_at_once(&rt, rt.alloc(), row)?;
     }
     Ok(())
 }
