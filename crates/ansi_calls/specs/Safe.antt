@@ -1,5 +1,8 @@
--- What each call of safe output does. A text that isn't UTF-8 makes it fail with the status `not_utf8`, and what it writes to is unchanged.
+-- What each call of safe output does. A text that isn't UTF-8 makes it fail with the status `not_utf8`, and what it writes to is unchanged;
+-- `sanitize_bytes` takes any bytes.
 use Rattle.std.specs.Prelude.{◌≡◌, ℕ, not, ◌&&◌, ◌==◌, List, [], ◌∷◌, length, Option, None, Some, if◌then◌else◌}
+use Rattle.std.specs.Str.{is_utf8}
+use Rattle.std.specs.Str.Lossy.{utf8_lossy}
 use Rattle.ansi_safe.specs.declared.policy.Links.{Links}
 use Rattle.ansi_safe.specs.declared.policy.Links.TheVariants.{Keep, Remove}
 use Rattle.ansi_safe.specs.declared.policy.Policy.{Policy}
@@ -35,6 +38,18 @@ GivesSanitized t (Some policy) answer old new =
 abbrev pub Sanitizes : List ℕ → ℕ → ℕ → Answer → List ℕ → List ℕ → Type 0
 Sanitizes t rest links answer old new =
     OnUtf8 (t ∷ []) (GivesSanitized t (policy_of (rest_of rest) (links_of links)) answer old new) (HasFailed not_utf8 answer old new)
+
+-- a call writes the text of the bytes made safe, with U+FFFD for each sequence that isn't UTF-8 (std's `from_utf8_lossy`); it allocates only if
+-- there is one, or the text isn't safe, or something is open at its end; it is refused if there is no such policy
+unfoldable pub GivesSanitizedBytes : List ℕ → Option Policy → Answer → List ℕ → List ℕ → Type 0
+GivesSanitizedBytes bytes None answer old new = HasFailed refused answer old new
+GivesSanitizedBytes bytes (Some policy) answer old new =
+    Gives no (not (is_utf8 bytes && (is_safe policy.links bytes && length (ending bytes) == 0)))
+    (Some (sanitized policy (utf8_lossy bytes))) answer old new
+
+-- `sanitize_bytes` does so, with the policy of these numbers
+abbrev pub SanitizesBytes : List ℕ → ℕ → ℕ → Answer → List ℕ → List ℕ → Type 0
+SanitizesBytes bytes rest links answer old new = GivesSanitizedBytes bytes (policy_of (rest_of rest) (links_of links)) answer old new
 
 -- a call returns whether the text t is safe; it is refused if there is no such choice about links
 abbrev pub TellsSafe : List ℕ → Option Links → Answer → Type 0

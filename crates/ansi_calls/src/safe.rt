@@ -1,9 +1,9 @@
-//! Calls of safe output: one makes a text safe, and one returns whether it is.
+//! Calls of safe output: two make a text safe, and one returns whether it is.
 ghost use Rattle.std.specs.Prelude.{◌≡◌, Some};
 ghost use Rattle.ansi_calls.specs.Safe.{rest_of, links_of, policy_of, GivesSanitized, Sanitizes};
-ghost use Rattle.ansi_calls.specs.Safe.{TestsSafe};
+ghost use Rattle.ansi_calls.specs.Safe.{GivesSanitizedBytes, SanitizesBytes, TestsSafe};
 
-use crate::answers::{Answer, NOT_UTF8, REFUSED, write_text};
+use crate::answers::{Answer, NOT_UTF8, OUT_OF_MEMORY, REFUSED, write_text};
 use ansi_safe::policy::{Links, Policy, Rest};
 use ansi_safe::safe;
 use ansi_safe::utf8::from_utf8;
@@ -44,6 +44,43 @@ fn sanitize_text<A: Allocator>(alloc: A, text: &str, policy: Policy, buffer: &mu
     ensures { GivesSanitized text.now (Some policy) result buffer.old buffer.new }
 {
     write_text(safe::sanitize(alloc, text, policy), buffer)
+}
+
+/// The text of bytes made safe, under the policy with these numbers. First U+FFFD takes the place
+/// of each sequence of bytes that isn't UTF-8, as in std's `from_utf8_lossy`. The call is refused
+/// if there is no such policy.
+#[tactic(auto, unfolding(crate::specs::Safe::GivesSanitizedBytes))]
+pub fn sanitize_bytes<A: Allocator + Copy>(
+    alloc: A,
+    bytes: &[u8],
+    rest: u32,
+    links: u32,
+    buffer: &mut [u8],
+) -> Answer
+    ensures { SanitizesBytes bytes.now rest links result buffer.old buffer.new }
+{
+    let Some(policy) = policy_of(rest, links) else {
+        return Answer::failed(REFUSED);
+    };
+    sanitize_decoded(alloc, bytes, policy, buffer)
+}
+
+/// The same under a policy. Bytes that are UTF-8 are read where they are.
+fn sanitize_decoded<A: Allocator + Copy>(
+    alloc: A,
+    bytes: &[u8],
+    policy: Policy,
+    buffer: &mut [u8],
+) -> Answer
+    ensures { GivesSanitizedBytes bytes.now (Some policy) result buffer.old buffer.new }
+{
+    if let Ok(text) = from_utf8(bytes) {
+        return sanitize_text(alloc, text, policy, buffer);
+    }
+    match String::from_utf8_lossy(alloc, bytes) {
+        Ok(text) => sanitize_text(alloc, text.as_str(), policy, buffer),
+        Err(_) => Answer::failed(OUT_OF_MEMORY),
+    }
 }
 
 /// Whether the text is safe. The call is refused if there is no such choice about links.

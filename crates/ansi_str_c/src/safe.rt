@@ -1,8 +1,8 @@
 //! Calls of safe output.
-ghost use Rattle.ansi_calls.specs.Safe.{Sanitizes, TestsSafe};
+ghost use Rattle.ansi_calls.specs.Safe.{Sanitizes, SanitizesBytes, TestsSafe};
 
 use ansi_calls::answers::Answer;
-use ansi_calls::safe::{is_safe, sanitize};
+use ansi_calls::safe::{is_safe, sanitize, sanitize_bytes};
 use std::alloc::Global;
 
 /// The text made safe, under the policy with these numbers.
@@ -17,6 +17,20 @@ pub extern "C" fn ansi_str_raw_sanitize(
     ensures { Sanitizes text.now rest links result buffer.old buffer.new }
 {
     sanitize(alloc, text, rest, links, buffer)
+}
+
+/// The text of bytes made safe, under the policy with these numbers. What isn't UTF-8 becomes U+FFFD.
+#[unsafe(no_mangle)]
+pub extern "C" fn ansi_str_raw_sanitize_bytes(
+    alloc: Global,
+    bytes: &[u8],
+    rest: u32,
+    links: u32,
+    buffer: &mut [u8],
+) -> Answer
+    ensures { SanitizesBytes bytes.now rest links result buffer.old buffer.new }
+{
+    sanitize_bytes(alloc, bytes, rest, links, buffer)
 }
 
 /// Whether the text is safe.

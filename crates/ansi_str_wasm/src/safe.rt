@@ -1,9 +1,9 @@
 //! Calls of safe output.
-ghost use Rattle.ansi_calls.specs.Safe.{Sanitizes, TestsSafe};
+ghost use Rattle.ansi_calls.specs.Safe.{Sanitizes, SanitizesBytes, TestsSafe};
 
 use crate::memory::arena_of;
 use ansi_calls::answers::Answer;
-use ansi_calls::safe::{is_safe, sanitize};
+use ansi_calls::safe::{is_safe, sanitize, sanitize_bytes};
 use one_block::{MemoryBlock, OneBlock};
 
 /// The text made safe, under the policy with these numbers.
@@ -19,6 +19,21 @@ pub extern "C" fn ansi_str_raw_sanitize(
 {
     let block = OneBlock::new(memory);
     sanitize(&arena_of(&block), text, rest, links, buffer)
+}
+
+/// The text of bytes made safe, under the policy with these numbers. What isn't UTF-8 becomes U+FFFD.
+#[unsafe(no_mangle)]
+pub extern "C" fn ansi_str_raw_sanitize_bytes(
+    memory: MemoryBlock,
+    bytes: &[u8],
+    rest: u32,
+    links: u32,
+    buffer: &mut [u8],
+) -> Answer
+    ensures { SanitizesBytes bytes.now rest links result buffer.old buffer.new }
+{
+    let block = OneBlock::new(memory);
+    sanitize_bytes(&arena_of(&block), bytes, rest, links, buffer)
 }
 
 /// Whether the text is safe.
