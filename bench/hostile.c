@@ -44,7 +44,8 @@ struct call {
 TEXT(strip) TEXT(trim) TEXT(strip_prefix, p.at, p.len) TEXT(strip_suffix, p.at, p.len) TEXT(part, p.at, p.len, n)
 QUESTION(has_any) QUESTION(is_whole) QUESTION(is_char_boundary, n) QUESTION(floor_char_boundary, n)
 QUESTION(width) QUESTION(fitting, n) QUESTION(column_of, n) TEXT(link_at, n) TEXT(slice, n, SIZE_MAX)
-TEXT(sanitize, ANSI_STR_SHOW, ANSI_STR_KEEP_LINKS) QUESTION(is_safe, ANSI_STR_KEEP_LINKS)
+TEXT(sanitize, ANSI_STR_SHOW, ANSI_STR_KEEP_LINKS) TEXT(sanitize_bytes, ANSI_STR_SHOW, ANSI_STR_KEEP_LINKS)
+QUESTION(is_safe, ANSI_STR_KEEP_LINKS)
 QUESTION(starts_with, p.at, p.len) QUESTION(ends_with, p.at, p.len) QUESTION(find, p.at, p.len)
 
 /* truncated to `position` columns (POSIX has the name `truncate`) */
@@ -117,7 +118,7 @@ static const struct call CALLS[] = {
     {"width", width, 0, 0, 0}, {"fitting", fitting, 1, 0, 0}, {"column_of", column_of, 1, 0, 0}, {"truncate", truncate_to, 1, 1, 0}, {"pad", pad, 1, 0, 0},
     {"fit", fit, 1, 1, 0}, {"truncate_with", truncate_with, 1, 1, 0}, {"slice", slice, 1, 0, 0}, {"expand_tabs", expand_tabs, 1, 0, 0},
     {"wrap", wrap, 1, 0, 1}, {"lines", lines, 1, 0, 1}, {"link_at", link_at, 1, 0, 0},
-    {"sanitize", sanitize, 0, 0, 0}, {"is_safe", is_safe, 0, 0, 0},
+    {"sanitize", sanitize, 0, 0, 0}, {"sanitize_bytes", sanitize_bytes, 0, 0, 0}, {"is_safe", is_safe, 0, 0, 0},
     {"find", find, 0, 1, 0}, {"split", split, 0, 1, 1}, {"part", part, 1, 1, 0},
 };
 enum { CALL_COUNT = sizeof CALLS / sizeof CALLS[0] };
@@ -166,6 +167,7 @@ static int is_bounded(struct bytes t, size_t position, struct bytes p) {
            is_short(t, part(t, position, p), ANSI_STR_LONGEST_START_AND_CLOSE) &&
            is_short(t, slice(t, position, p), ANSI_STR_LONGEST_START_AND_CLOSE + ANSI_STR_LONGEST_LINK_END) &&
            is_short(t, sanitize(t, position, p), 3 * t.len + ANSI_STR_LONGEST_LINK_END + ANSI_STR_LONGEST_CLOSE) &&
+           is_short(t, sanitize_bytes(t, position, p), 3 * t.len + ANSI_STR_LONGEST_LINK_END + ANSI_STR_LONGEST_CLOSE) &&
            is_short(t, sides(t, position, p), ANSI_STR_LONGEST_START_AND_CLOSE * (runs + 1));
 }
 
@@ -253,6 +255,7 @@ static const struct kind KINDS[] = {
     {"the longest style, short runs", LONGEST, "\x1b\\" "a"},
     {"the longest style, many times", "", LONGEST "a"},
     {"two bytes a character", "", "\x1b[1m\xc3\xa9"},
+    {"no UTF-8", "", "\xf0\x9f\x98\xff"},
 };
 
 static struct bytes made(const struct kind *kind) {

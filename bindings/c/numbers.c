@@ -209,6 +209,10 @@ static void expect_policies(void) {
             ansi_str_sanitize(TEXT("\x1b]8;;u\al\x1b]8;;\a\a"), POLICIES[i].rest, POLICIES[i].links, buffer, sizeof buffer);
         expect(wanted, answer.status, ANSI_STR_OK);
         expect(wanted, answer.len == strlen(wanted) && memcmp(buffer, wanted, answer.len) == 0, 1);
+        answer = ansi_str_sanitize_bytes(TEXT("\x1b]8;;u\al\x1b]8;;\a\a\xff"), POLICIES[i].rest, POLICIES[i].links, buffer, sizeof buffer);
+        expect(wanted, answer.status, ANSI_STR_OK);
+        expect(wanted, answer.len == strlen(wanted) + 3 && memcmp(buffer, wanted, strlen(wanted)) == 0, 1);
+        expect(wanted, memcmp(buffer + strlen(wanted), "\xef\xbf\xbd", 3), 0);
     }
     expect("a link is kept", ansi_str_is_safe(TEXT(LINK), ANSI_STR_KEEP_LINKS).status, ANSI_STR_OK);
     expect("a link is removed", ansi_str_is_safe(TEXT(LINK), ANSI_STR_REMOVE_LINKS).status, ANSI_STR_NO);

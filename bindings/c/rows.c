@@ -180,6 +180,8 @@ static ansi_str_answer call(const struct row *r, char *buffer, size_t len) {
         return ansi_str_link_at(TEXT(t), position(r, 0), buffer, len);
     } else if (strcmp(name, "sanitize") == 0) {
         return ansi_str_sanitize(TEXT(t), number_of(argument(r, 0)), number_of(argument(r, 1)), buffer, len);
+    } else if (strcmp(name, "sanitize_bytes") == 0) {
+        return ansi_str_sanitize_bytes(TEXT(t), number_of(argument(r, 0)), number_of(argument(r, 1)), buffer, len);
     }
     expect("the call is known", strcmp(name, "edit") == 0);
     size_t count;
@@ -701,6 +703,8 @@ static void expect_failures(void) {
     expect("an unknown side", answer.status == ANSI_STR_REFUSED && answer.len == 0);
     const ansi_str_answer refused[] = {ansi_str_sanitize("a\a", 2, ANSI_STR_SHOW + 1, ANSI_STR_KEEP_LINKS, buffer, 8),
                                        ansi_str_sanitize("a\a", 2, ANSI_STR_DROP, ANSI_STR_KEEP_LINKS + 1, buffer, 8),
+                                       ansi_str_sanitize_bytes("\xff", 1, ANSI_STR_SHOW + 1, ANSI_STR_KEEP_LINKS, buffer, 8),
+                                       ansi_str_sanitize_bytes("\xff", 1, ANSI_STR_DROP, ANSI_STR_KEEP_LINKS + 1, buffer, 8),
                                        ansi_str_is_safe("a", 1, ANSI_STR_KEEP_LINKS + 1)};
     for (size_t i = 0; i < sizeof refused / sizeof refused[0]; i++) {
         expect("an unknown policy", refused[i].status == ANSI_STR_REFUSED && refused[i].len == 0);
@@ -722,6 +726,7 @@ static void expect_failures(void) {
     expect("nothing", ansi_str_expand_tabs(NULL, 0, 0, NULL, 0).status == ANSI_STR_OK);
     expect("nothing", ansi_str_link_at(NULL, 0, 0, NULL, 0).status == ANSI_STR_NO);
     expect("nothing", ansi_str_sanitize(NULL, 0, ANSI_STR_DROP, ANSI_STR_REMOVE_LINKS, NULL, 0).status == ANSI_STR_OK);
+    expect("nothing", ansi_str_sanitize_bytes(NULL, 0, ANSI_STR_DROP, ANSI_STR_REMOVE_LINKS, NULL, 0).status == ANSI_STR_OK);
     expect("nothing", ansi_str_is_safe(NULL, 0, ANSI_STR_REMOVE_LINKS).status == ANSI_STR_OK);
 }
 

@@ -342,6 +342,8 @@ ansi_str_answers ansi_str_raw_lines(const uint8_t *text, size_t text_len, size_t
 ansi_str_answer ansi_str_raw_link_at(const uint8_t *text, size_t text_len, size_t index, uint8_t *buffer, size_t buffer_len);
 ansi_str_answer ansi_str_raw_sanitize(const uint8_t *text, size_t text_len, uint32_t rest, uint32_t links, uint8_t *buffer,
                                       size_t buffer_len);
+ansi_str_answer ansi_str_raw_sanitize_bytes(const uint8_t *bytes, size_t bytes_len, uint32_t rest, uint32_t links,
+                                            uint8_t *buffer, size_t buffer_len);
 ansi_str_answer ansi_str_raw_is_safe(const uint8_t *text, size_t text_len, uint32_t links);
 
 /* The same for a caller who promises that each text and each pattern is UTF-8, for example by its type: these calls don't
@@ -845,6 +847,17 @@ static inline ansi_str_answer ansi_str_link_at(const char *text, size_t text_len
 static inline ansi_str_answer ansi_str_sanitize(const char *text, size_t text_len, uint32_t rest, uint32_t links,
                                                 char *buffer, size_t buffer_len) {
     return ansi_str_raw_sanitize(ansi_str_bytes(text), text_len, rest, links, ansi_str_room(buffer), buffer_len);
+}
+
+/* The text of any bytes, made safe as by ansi_str_sanitize: first each sequence of bytes that isn't UTF-8 becomes U+FFFD. It
+   ends where no character can have its bytes (the Unicode Standard, "Substitution of Maximal Subparts"), so "\xe2\x82" at the end is
+   one U+FFFD, and "\xff\xff" are two. The result is at most ANSI_STR_LONGEST_LINK_END + ANSI_STR_LONGEST_CLOSE bytes longer than
+   three times the bytes; with ANSI_STR_SHOW, than four times the bytes. ANSI_STR_REFUSED: `rest` or `links` is none of the
+   numbers above. Never returns ANSI_STR_NOT_UTF8. Allocates, also without ESC, unless the result is the bytes themselves.
+   "caf\xe9\a" gives "caf\xef\xbf\xbd" with ANSI_STR_DROP. */
+static inline ansi_str_answer ansi_str_sanitize_bytes(const char *bytes, size_t bytes_len, uint32_t rest, uint32_t links,
+                                                      char *buffer, size_t buffer_len) {
+    return ansi_str_raw_sanitize_bytes(ansi_str_bytes(bytes), bytes_len, rest, links, ansi_str_room(buffer), buffer_len);
 }
 
 /* Whether the text is safe, that is, whether ansi_str_sanitize would drop nothing: ANSI_STR_OK or ANSI_STR_NO. A style or a
