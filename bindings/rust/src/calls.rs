@@ -1,7 +1,9 @@
 //! The calls of the library for C, over texts: the one module that isn't safe.
 
 use crate::style::{Color, Style};
+use crate::Edit;
 use std::borrow::Cow;
+use std::cmp::Ordering;
 use std::marker::PhantomData;
 use std::mem::{size_of, MaybeUninit};
 use std::ops::Range;
@@ -52,7 +54,7 @@ struct RawFont {
 }
 
 #[repr(C)]
-#[derive(Debug, Clone, Copy, PartialEq, Eq, PartialOrd, Ord, Hash)]
+#[derive(Debug, Clone, Copy, PartialEq, Eq, Hash)]
 pub(crate) struct RawStyle {
     pub(crate) attributes: u32,
     pub(crate) foreground: RawColor,
@@ -135,6 +137,38 @@ struct RawLine {
     end: usize,
 }
 
+/// An edit by the number of its kind, its positions or its index, and its pattern.
+#[repr(C)]
+struct RawEdit {
+    kind: u32,
+    first: usize,
+    second: usize,
+    pattern: Bytes,
+    pattern_len: usize,
+}
+
+impl RawEdit {
+    /// An edit that doesn't take what isn't given has 0 and an empty pattern for it.
+    fn new(edit: &Edit<'_>) -> RawEdit {
+        let (kind, first, second, pattern) = match *edit {
+            Edit::Cut { start, end } => (0, start, end.unwrap_or(usize::MAX), ""),
+            Edit::Left(mid) => (1, mid, 0, ""),
+            Edit::Right(mid) => (2, mid, 0, ""),
+            Edit::Part { pat, index } => (3, index, 0, pat),
+            Edit::Prefix(prefix) => (4, 0, 0, prefix),
+            Edit::Suffix(suffix) => (5, 0, 0, suffix),
+            Edit::Trim => (6, 0, 0, ""),
+        };
+        RawEdit {
+            kind,
+            first,
+            second,
+            pattern: pattern.as_ptr(),
+            pattern_len: pattern.len(),
+        }
+    }
+}
+
 // A text or a buffer is a pointer to its first byte and its length. The pointer of a slice is never null.
 type Bytes = *const u8;
 type Room = *mut u8;
@@ -161,6 +195,24 @@ extern "C" {
         b: Room,
         m: usize,
     ) -> Answer;
+    fn ansi_str_raw_part(
+        t: Bytes,
+        n: usize,
+        p: Bytes,
+        k: usize,
+        index: usize,
+        b: Room,
+        m: usize,
+    ) -> Answer;
+    fn ansi_str_raw_edit(
+        t: Bytes,
+        n: usize,
+        edits: *const RawEdit,
+        k: usize,
+        b: Room,
+        m: usize,
+    ) -> Answer;
+    fn ansi_str_raw_is_whole(t: Bytes, n: usize) -> Answer;
     fn ansi_str_raw_find_unchecked(t: Bytes, n: usize, p: Bytes, k: usize) -> Answer;
     fn ansi_str_raw_starts_with_unchecked(t: Bytes, n: usize, p: Bytes, k: usize) -> Answer;
     fn ansi_str_raw_ends_with_unchecked(t: Bytes, n: usize, p: Bytes, k: usize) -> Answer;
@@ -262,6 +314,14 @@ extern "C" {
     fn ansi_str_raw_lines_next(walk: *mut RawLineWalk, line: *mut RawLine) -> Answer;
     fn ansi_str_raw_link_at(t: Bytes, n: usize, index: usize, b: Room, m: usize) -> Answer;
     fn ansi_str_raw_sanitize(
+        t: Bytes,
+        n: usize,
+        rest: u32,
+        links: u32,
+        b: Room,
+        m: usize,
+    ) -> Answer;
+    fn ansi_str_raw_sanitize_bytes(
         t: Bytes,
         n: usize,
         rest: u32,
@@ -444,6 +504,31 @@ pub(crate) fn strip_suffix(text: &str, suffix: &str) -> Option<String> {
     write_without(ansi_str_raw_strip_suffix, text, suffix)
 }
 
+pub(crate) fn part(text: &str, pat: &str, index: usize) -> Option<String> {
+    let (t, n, p, k) = (text.as_ptr(), text.len(), pat.as_ptr(), pat.len());
+    // SAFETY: two `str`s, and the room; any number may be an index
+    written(0, |b, m| unsafe {
+        ansi_str_raw_part(t, n, p, k, index, b, m)
+    })
+    .ok()
+}
+
+/// The text after all edits, or `None` if one is refused.
+pub(crate) fn edit(text: &str, edits: &[Edit<'_>]) -> Option<String> {
+    let edits: Vec<RawEdit> = edits.iter().map(RawEdit::new).collect();
+    written(text.len() + LONGEST_START_AND_CLOSE, |b, m| {
+        let (t, n, k) = (text.as_ptr(), text.len(), edits.len());
+        // SAFETY: a `str`, edits whose patterns are `str`s that outlive the call, and the room
+        unsafe { ansi_str_raw_edit(t, n, edits.as_ptr(), k, b, m) }
+    })
+    .ok()
+}
+
+pub(crate) fn is_whole(text: &str) -> bool {
+    // SAFETY: a `str`
+    is_so(unsafe { ansi_str_raw_is_whole(text.as_ptr(), text.len()) })
+}
+
 pub(crate) fn find(text: &str, pat: &str) -> Option<usize> {
     let answer = tell_of(ansi_str_raw_find_unchecked, text, pat);
     outcome(answer.status, answer.len).ok()
@@ -540,6 +625,13 @@ pub(crate) fn sanitize(text: &str, rest: u32, links: u32) -> String {
     always(written(text.len() + LONGEST_CLOSE, |b, m| {
         // SAFETY: a `str`, and the room; any numbers may be a policy
         unsafe { ansi_str_raw_sanitize(text.as_ptr(), text.len(), rest, links, b, m) }
+    }))
+}
+
+pub(crate) fn sanitize_bytes(bytes: &[u8], rest: u32, links: u32) -> String {
+    always(written(bytes.len() + LONGEST_CLOSE, |b, m| {
+        // SAFETY: a slice, which needn't be UTF-8 here, and the room; any numbers may be a policy
+        unsafe { ansi_str_raw_sanitize_bytes(bytes.as_ptr(), bytes.len(), rest, links, b, m) }
     }))
 }
 
@@ -715,8 +807,13 @@ impl<'a> Iterator for Blocks<'a> {
     }
 }
 
-/// The attributes that no character shows, which count only together.
-const UNSEEN: u32 = 1 << 22 | 1 << 23;
+/// The attributes by their bits, as far as they have an order or a meaning of their own here.
+const FRAMED_AND_ENCIRCLED: u32 = 1 << 10 | 1 << 11;
+const RESET: u32 = 1 << 22;
+const UNKNOWN: u32 = 1 << 23;
+/// Those before them, from bold to crossed out, and those that come after the font.
+const UP_TO_CROSSED_OUT: u32 = (1 << 10) - 1;
+const AFTER_FONT: u32 = !(UP_TO_CROSSED_OUT | FRAMED_AND_ENCIRCLED | RESET);
 
 impl RawStyle {
     /// A style with nothing set.
@@ -731,12 +828,24 @@ impl RawStyle {
         },
     };
 
-    /// The same without what neither sets nor closes anything.
-    pub(crate) fn seen(mut self) -> RawStyle {
-        if self.attributes & UNSEEN != UNSEEN {
-            self.attributes &= !UNSEEN;
+    /// Whether there is something to close. No character shows a reset or an unknown code: these count only together.
+    pub(crate) fn has_any(mut self) -> bool {
+        if self.attributes & RESET == 0 || self.attributes & UNKNOWN == 0 {
+            self.attributes &= !(RESET | UNKNOWN);
         }
-        self
+        self != RawStyle::PLAIN
+    }
+
+    /// The parts in the order in which the library compares them.
+    fn parts(&self) -> impl Ord {
+        // (so the first attribute counts most)
+        let set = |bits: u32| (self.attributes & bits).reverse_bits();
+        (
+            [self.foreground, self.background, self.underline_color],
+            [UP_TO_CROSSED_OUT, RESET, FRAMED_AND_ENCIRCLED].map(set),
+            self.font,
+            set(AFTER_FONT),
+        )
     }
 
     /// The sequences that set the style.
@@ -756,6 +865,18 @@ impl RawStyle {
         }
         // SAFETY: a style that the library has made, and the room
         always(written(0, |b, m| unsafe { call(self, b, m) }))
+    }
+}
+
+impl PartialOrd for RawStyle {
+    fn partial_cmp(&self, other: &Self) -> Option<Ordering> {
+        Some(self.cmp(other))
+    }
+}
+
+impl Ord for RawStyle {
+    fn cmp(&self, other: &Self) -> Ordering {
+        self.parts().cmp(&other.parts())
     }
 }
 

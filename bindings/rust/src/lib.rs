@@ -24,10 +24,12 @@
 mod blocks;
 mod calls;
 pub mod columns;
+mod edits;
 pub mod safe;
 mod style;
 
 pub use blocks::{get_blocks, AnsiBlock, AnsiBlockIter};
+pub use edits::{edit, is_whole, part, Edit};
 pub use style::{AnsiSequenceEnd, AnsiSequenceStart, Color, Style};
 
 use calls::Refusal;
@@ -198,11 +200,7 @@ impl<T: AsRef<str> + ?Sized> AnsiStr for T {
         if text.ansi_has_any() {
             return calls::cut(text, start, end).map(Cow::Owned);
         }
-        if end < start {
-            return None;
-        }
-        let within = start.min(text.len())..end.min(text.len());
-        text.get(within).map(Cow::Borrowed)
+        slice_of(text, start, end).map(Cow::Borrowed)
     }
 
     fn ansi_cut<R: RangeBounds<usize>>(&self, range: R) -> Cow<'_, str> {
@@ -327,6 +325,14 @@ fn is_bare(text: &str, len: usize) -> bool {
     let front = &text.as_bytes()[..len.min(text.len())];
     // a text with sequences often begins with one
     front.first() != Some(&ESC) && !front.contains(&ESC)
+}
+
+/// The text between two positions of a text without ESC.
+fn slice_of(text: &str, start: usize, end: usize) -> Option<&str> {
+    if end < start {
+        return None;
+    }
+    text.get(start.min(text.len())..end.min(text.len()))
 }
 
 /// The start and the end of a range. `usize::MAX`, which is past every text, means no end.

@@ -6,6 +6,7 @@
 
 use crate::{calls, AnsiStr};
 use std::borrow::Cow;
+use std::str;
 
 /// What is made of what is unsafe in a text.
 #[derive(Debug, Clone, Copy, PartialEq, Eq)]
@@ -76,5 +77,22 @@ impl<T: AsRef<str> + ?Sized> AnsiSafe for T {
 
     fn ansi_is_safe(&self, links: Links) -> bool {
         calls::is_safe(self.as_ref(), links as u32)
+    }
+}
+
+/// The text of any bytes, made safe as by [`AnsiSafe::ansi_sanitize`]: first U+FFFD takes the place of what isn't UTF-8, as in
+/// std's `String::from_utf8_lossy`. Bytes that are a safe text, at whose end nothing is open, are borrowed.
+///
+/// ```
+/// use ansi_str::safe::{sanitize_bytes, Links, Policy, Rest};
+/// let policy = Policy { rest: Rest::Drop, links: Links::Remove };
+/// assert_eq!(sanitize_bytes(b"\x1b[2Jcaf\xe9\x07", policy), "caf\u{fffd}");
+/// ```
+#[must_use]
+pub fn sanitize_bytes(bytes: &[u8], policy: Policy) -> Cow<'_, str> {
+    let safe = calls::sanitize_bytes(bytes, policy.rest as u32, policy.links as u32);
+    match str::from_utf8(bytes) {
+        Ok(text) if text == safe => Cow::Borrowed(text),
+        _ => Cow::Owned(safe),
     }
 }

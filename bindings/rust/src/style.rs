@@ -1,9 +1,7 @@
 //! The style of a block, and its colors.
 
 use crate::calls::RawStyle;
-use std::cmp::Ordering;
 use std::fmt::{self, Debug, Display, Formatter};
-use std::hash::{Hash, Hasher};
 
 /// A color by its name, by its number among 256, or by its red, green and blue.
 ///
@@ -58,15 +56,18 @@ pub enum Color {
     Rgb(u8, u8, u8),
 }
 
-/// The style of a run of text. Two styles are equal if the sequences that set them are; their order is unspecified.
+/// The style of a run of text. Styles compare by all their parts, as those of the crate do: the color of the text, the color
+/// behind it, the underline's color, then each attribute. A reset (code 0) and a code that isn't known are attributes
+/// too, so two styles may differ although the sequences that set them are the same.
 ///
 /// ```
 /// use ansi_str::get_blocks;
-/// let styles: Vec<_> = get_blocks("\x1b[1ma\x1b[0mb\x1b[1mc").map(|block| *block.style()).collect();
+/// let styles: Vec<_> = get_blocks("\x1b[1ma\x1b[22mb\x1b[1mc\x1b[0;1md").map(|block| *block.style()).collect();
 /// assert_eq!(styles[0], styles[2]);
-/// assert_ne!(styles[0], styles[1]);
+/// assert!(styles[1] < styles[0]);
+/// assert_ne!(styles[0], styles[3]);
 /// ```
-#[derive(Clone, Copy)]
+#[derive(Clone, Copy, PartialEq, Eq, PartialOrd, Ord, Hash)]
 pub struct Style(pub(crate) RawStyle);
 
 impl Style {
@@ -74,7 +75,7 @@ impl Style {
     pub(crate) const EMPTY: Style = Style(RawStyle::PLAIN);
 
     pub(crate) fn has_any(&self) -> bool {
-        self.0.seen() != RawStyle::PLAIN
+        self.0.has_any()
     }
 
     /// Prints the sequences that set the style.
@@ -150,32 +151,6 @@ attributes!(
     0 is_bold "1", 1 is_faint "2", 2 is_italic "3", 3 is_underline "4", 5 is_slow_blink "5", 6 is_rapid_blink "6",
     7 is_inverse "7", 8 is_hide "8", 9 is_crossedout "9", 12 is_fraktur "20"
 );
-
-impl PartialEq for Style {
-    fn eq(&self, other: &Self) -> bool {
-        self.0.seen() == other.0.seen()
-    }
-}
-
-impl Eq for Style {}
-
-impl PartialOrd for Style {
-    fn partial_cmp(&self, other: &Self) -> Option<Ordering> {
-        Some(self.cmp(other))
-    }
-}
-
-impl Ord for Style {
-    fn cmp(&self, other: &Self) -> Ordering {
-        self.0.seen().cmp(&other.0.seen())
-    }
-}
-
-impl Hash for Style {
-    fn hash<H: Hasher>(&self, state: &mut H) {
-        self.0.seen().hash(state);
-    }
-}
 
 impl Debug for Style {
     fn fmt(&self, formatter: &mut Formatter<'_>) -> fmt::Result {

@@ -1,6 +1,7 @@
 //! Texts without ESC, which std alone handles: `bindings/test` runs this over a library each of whose calls stops the program.
 
-use ansi_str::{get_blocks, AnsiStr};
+use ansi_str::{edit, get_blocks, is_whole, part, AnsiStr, Edit};
+use std::borrow::Cow;
 
 const TEXTS: [&str; 5] = ["", "a", " b\u{e9}ta, beta\n", "\u{2003}", "m[31m"];
 const PATTERNS: [&str; 5] = ["", "a", "\u{e9}ta", "\x1b", "m[31mm"];
@@ -19,6 +20,16 @@ fn a_position_is_that_of_std() {
             assert_eq!(Some(text.ansi_floor_char_boundary(index)), floor);
             assert_eq!(text.ansi_get(index..).as_deref(), text.get(within..));
             assert_eq!(text.ansi_get(..index).as_deref(), text.get(..within));
+            for (edits, wanted) in [
+                ([Edit::Left(index)], text.get(..within)),
+                ([Edit::Right(index)], text.get(within..)),
+            ] {
+                assert_eq!(edit(text, &edits).as_deref(), wanted);
+            }
+            for end in (0..text.len() + 3).map(Some).chain([None]) {
+                let cut = edit(text, &[Edit::Cut { start: index, end }]);
+                assert_eq!(cut, text.ansi_get(index..end.unwrap_or(usize::MAX)));
+            }
             if is_boundary {
                 let (left, right) = text.ansi_split_at(index);
                 assert_eq!((&*left, &*right), text.split_at(within));
@@ -43,6 +54,18 @@ fn a_search_is_that_of_std() {
                 text.strip_suffix(pat)
             );
             assert!(text.ansi_split(pat).eq(text.split(pat)));
+            for index in 0..=text.len() + 2 {
+                let wanted = text.split(pat).nth(index);
+                assert_eq!(part(text, pat, index).as_deref(), wanted);
+                let by_edit = edit(text, &[Edit::Part { pat, index }]);
+                assert_eq!(by_edit.as_deref(), wanted);
+            }
+            assert_eq!(
+                edit(text, &[Edit::Prefix(pat), Edit::Suffix(pat), Edit::Trim]).as_deref(),
+                text.strip_prefix(pat)
+                    .and_then(|text| text.strip_suffix(pat))
+                    .map(str::trim)
+            );
         }
     }
 }
@@ -50,7 +73,9 @@ fn a_search_is_that_of_std() {
 #[test]
 fn all_of_a_text_is_one_block_without_a_style() {
     for text in TEXTS {
-        assert!(!text.ansi_has_any());
+        assert!(!text.ansi_has_any() && is_whole(text));
+        assert!(matches!(edit(text, &[Edit::Trim]), Some(Cow::Borrowed(_))));
+        assert_eq!(edit(text, &[]).as_deref(), Some(text));
         assert_eq!(
             (&*text.ansi_strip(), &*text.ansi_trim()),
             (text, text.trim())

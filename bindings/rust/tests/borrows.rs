@@ -42,9 +42,10 @@ fn calls_follow_on_calls() {
 
 #[test]
 fn blocks_have_styles() {
-    let blocks: Vec<_> = get_blocks("\x1b[31mred\x1b[0m \x1b[31mred").collect();
+    let blocks: Vec<_> = get_blocks("\x1b[31mred\x1b[39m \x1b[31mred\x1b[0;31mred").collect();
     assert_eq!(blocks[0], blocks[2]);
     assert_ne!(blocks[0], blocks[1]);
+    assert_ne!(blocks[2], blocks[3]);
     assert_eq!(blocks[0].style().start().to_string(), "\x1b[31m");
     assert_eq!(blocks[0].style().end().to_string(), "\x1b[39m");
     assert!(!blocks[1].has_ansi());

@@ -1,38 +1,37 @@
 //! Passes the rows of texts and results, which `rows/README.md` describes.
 
 use ansi_str::columns::{Alignment, AnsiColumns, Side, Truncation, Wrap};
-use ansi_str::safe::{AnsiSafe, Links, Policy, Rest};
-use ansi_str::{get_blocks, AnsiBlock, AnsiStr, Color};
+use ansi_str::safe::{sanitize_bytes, AnsiSafe, Links, Policy, Rest};
+use ansi_str::{edit, get_blocks, is_whole, part, AnsiBlock, AnsiStr, Color, Edit};
 use std::borrow::Cow;
+use std::cmp::Ordering;
 use std::collections::BTreeMap;
 use std::ops::Range;
 
 const ROWS: &str = include_str!("../../../crates/ansi_rows/stdin");
 
-/// The calls that this crate doesn't have. It doesn't specify the order of styles.
-const LACKING: [&str; 6] = [
-    "is_whole",
-    "part",
-    "part_interval",
-    "edit",
-    "block_order",
-    "items",
-];
+/// The calls that this crate doesn't have.
+const LACKING: [&str; 2] = ["part_interval", "items"];
 
-/// A field: a text, which begins with `x`, or another one as it is. `None` for a text that isn't UTF-8.
-fn field_of(field: &str) -> Option<String> {
-    let pieces = match field.strip_prefix('x') {
-        Some(pieces) => pieces,
-        None => return Some(field.to_string()),
-    };
+/// The bytes of a text, which begins with `x`.
+fn bytes_of(field: &str) -> Vec<u8> {
     let mut bytes = Vec::new();
-    for piece in pieces.split('+') {
+    for piece in field[1..].split('+') {
         let (count, digits) = piece.split_once('*').unwrap_or(("1", piece));
         let byte_of = |at| u8::from_str_radix(&digits[at..at + 2], 16).expect("two digits");
         let once: Vec<u8> = (0..digits.len()).step_by(2).map(byte_of).collect();
         bytes.extend(once.repeat(number(count)));
     }
-    String::from_utf8(bytes).ok()
+    bytes
+}
+
+/// A field: a text, or another one as it is. `None` for a text that isn't UTF-8.
+fn field_of(field: &str) -> Option<String> {
+    if field.starts_with('x') {
+        String::from_utf8(bytes_of(field)).ok()
+    } else {
+        Some(field.to_string())
+    }
 }
 
 fn number(field: &str) -> usize {
@@ -144,6 +143,35 @@ fn links_of(word: &str) -> Links {
     }
 }
 
+/// An edit of a row: its kind, two numbers and a pattern. `None` if it has none of the kinds that there are.
+fn edit_of(fields: &[String]) -> Option<Edit<'_>> {
+    let (first, second, pat) = (number(&fields[1]), number(&fields[2]), &*fields[3]);
+    Some(match &*fields[0] {
+        "0" => Edit::Cut {
+            start: first,
+            end: (second < usize::MAX).then_some(second),
+        },
+        "1" => Edit::Left(first),
+        "2" => Edit::Right(first),
+        "3" => Edit::Part { pat, index: first },
+        "4" => Edit::Prefix(pat),
+        "5" => Edit::Suffix(pat),
+        "6" => Edit::Trim,
+        _ => return None,
+    })
+}
+
+/// What a row says of the order of two styles, if equality agrees with it.
+fn order_of(style: &ansi_str::Style, other: &ansi_str::Style) -> Option<&'static str> {
+    let order = style.cmp(other);
+    let agrees = style.partial_cmp(other) == Some(order) && (style == other) == order.is_eq();
+    agrees.then_some(match order {
+        Ordering::Less => "less",
+        Ordering::Equal => "equal",
+        Ordering::Greater => "greater",
+    })
+}
+
 /// Makes the call of a row with these fields. `None` if this crate doesn't have it, and else whether it returns what the row says.
 fn pass(call: &str, status: &str, want: &str, text: &str, more: &[String]) -> Option<bool> {
     let is_ok = status == "0";
@@ -160,6 +188,12 @@ fn pass(call: &str, status: &str, want: &str, text: &str, more: &[String]) -> Op
         "left" | "right" if !is_ok => text.ansi_get(position(0)..).is_none(),
         "left" => is(Some(text.ansi_split_at(position(0)).0)),
         "right" => is(Some(text.ansi_split_at(position(0)).1)),
+        "part" => is(part(text, &more[0], position(1))),
+        "edit" => match more.chunks(4).map(edit_of).collect::<Option<Vec<_>>>() {
+            Some(edits) => is(edit(text, &edits)),
+            None => return None,
+        },
+        "is_whole" => is_whole(text) == is_ok,
         "split_at" => {
             let (left, right) = text.ansi_split_at(position(0));
             are(vec![left, right])
@@ -191,6 +225,10 @@ fn pass(call: &str, status: &str, want: &str, text: &str, more: &[String]) -> Op
         "block" => is(block().map(|block| block.text().to_string().into())),
         "block_start" => is(block().map(|block| block.style().start().to_string().into())),
         "block_end" => is(block().map(|block| block.style().end().to_string().into())),
+        "block_order" => {
+            let other = get_blocks(&more[1]).next().expect("another block");
+            block().and_then(|block| order_of(block.style(), other.style())) == answer
+        }
         "width" => is_number(text.ansi_width()),
         "fitting" => is_number(text.ansi_fitting(position(0))),
         "column_of" => text.ansi_column_of(position(0)) == answer.map(number),
@@ -229,12 +267,33 @@ fn pass(call: &str, status: &str, want: &str, text: &str, more: &[String]) -> Op
     })
 }
 
+/// Makes the call of a row whose text is any bytes. `None` if the row is of another call, and else whether it returns what
+/// the row says.
+fn pass_bytes(row: &str) -> Option<bool> {
+    let fields: Vec<&str> = row.split(' ').collect();
+    match fields[..] {
+        [_memory, _borrows, "sanitize_bytes", "0", want, bytes, rest, links] => {
+            let word_of = |field| field_of(field).expect("a word");
+            let (rest, links) = (rest_of(&word_of(rest)), links_of(&word_of(links)));
+            let bytes = bytes_of(bytes);
+            let safe = sanitize_bytes(&bytes, Policy { rest, links });
+            Some(safe.as_bytes() == bytes_of(want))
+        }
+        _ => None,
+    }
+}
+
 #[test]
 fn rows_pass() {
     let mut passed = 0;
     let mut passed_over = BTreeMap::new();
     let rows = (1..).zip(ROWS.lines());
     for (number, row) in rows.filter(|(_, row)| !row.is_empty()) {
+        if let Some(is_as_said) = pass_bytes(row) {
+            assert!(is_as_said, "line {number}: {row}");
+            passed += 1;
+            continue;
+        }
         let fields: Option<Vec<String>> = row.split(' ').map(field_of).collect();
         let (call, made) = match fields.as_deref() {
             Some([_memory, _borrows, call, status, want, text, more @ ..]) => {
@@ -280,4 +339,7 @@ fn a_safe_text_with_nothing_open_is_a_borrow() {
     let borrowed = |text: &'static str| matches!(text.ansi_sanitize(policy), Cow::Borrowed(_));
     assert!(borrowed("abc\n") && borrowed("\x1b[1mabc\x1b[0m"));
     assert!(!borrowed("abc\r") && !borrowed("\x1b[1mabc"));
+    let borrowed = |bytes| matches!(sanitize_bytes(bytes, policy), Cow::Borrowed(_));
+    assert!(borrowed(b"abc\n") && borrowed("\u{e9}\x1b[1mabc\x1b[0m".as_bytes()));
+    assert!(!borrowed(b"abc\r") && !borrowed(b"\xe9") && !borrowed(b"\x1b[1mabc"));
 }

@@ -5,28 +5,16 @@ use crate::kept::{trimmed, without_prefix, without_suffix};
 use crate::split::intervals;
 use crate::text::{Kind, Text};
 use crate::{compare, Tally};
-use ansi_str::AnsiStr;
+use ansi_str::Edit::{Cut, Left, Part, Prefix, Right, Suffix, Trim};
+use ansi_str::{edit, AnsiStr, Edit};
 use std::borrow::Cow;
 use std::fmt::Debug;
 use std::ops::Range;
 
-#[derive(Clone, Copy, Debug)]
-enum Edit {
-    Cut(usize, usize),
-    Left(usize),
-    Right(usize),
-    /// The part of an index, between the matches of a pattern.
-    Part(&'static str, usize),
-    Prefix(&'static str),
-    Suffix(&'static str),
-    Trim,
-}
-
-use Edit::{Cut, Left, Part, Prefix, Right, Suffix, Trim};
-
 #[rustfmt::skip]
-const EDITS: [Edit; 13] = [
-    Cut(1, 3), Cut(0, usize::MAX), Cut(2, 1), Left(1), Right(2), Part("a", 1), Part("", 2), Part(" ", 0),
+const EDITS: [Edit<'static>; 13] = [
+    Cut { start: 1, end: Some(3) }, Cut { start: 0, end: None }, Cut { start: 2, end: Some(1) }, Left(1), Right(2),
+    Part { pat: "a", index: 1 }, Part { pat: "", index: 2 }, Part { pat: " ", index: 0 },
     Prefix("a"), Prefix(""), Suffix("ba"), Suffix("\u{e9}"), Trim,
 ];
 
@@ -36,12 +24,12 @@ const PIECES: [&str; 8] = [
 ];
 
 /// What an edit leaves of a plain text, or `None` where it is refused.
-fn edited(plain: &str, edit: Edit) -> Option<Range<usize>> {
+fn edited(plain: &str, edit: Edit<'_>) -> Option<Range<usize>> {
     match edit {
-        Cut(start, end) => named(plain, start, end),
+        Cut { start, end } => named(plain, start, end.unwrap_or(usize::MAX)),
         Left(mid) => named(plain, 0, mid),
         Right(mid) => named(plain, mid, usize::MAX),
-        Part(pat, index) => intervals(plain, pat).get(index).cloned(),
+        Part { pat, index } => intervals(plain, pat).get(index).cloned(),
         Prefix(prefix) => without_prefix(plain, prefix),
         Suffix(suffix) => without_suffix(plain, suffix),
         Trim => Some(trimmed(plain)),
@@ -49,20 +37,20 @@ fn edited(plain: &str, edit: Edit) -> Option<Range<usize>> {
 }
 
 /// What two edits in turn leave of it.
-fn twice_edited(plain: &str, first: Edit, second: Edit) -> Option<Range<usize>> {
+fn twice_edited(plain: &str, first: Edit<'_>, second: Edit<'_>) -> Option<Range<usize>> {
     let outer = edited(plain, first)?;
     let inner = edited(&plain[outer.clone()], second)?;
     Some(outer.start + inner.start..outer.start + inner.end)
 }
 
-/// What the library makes of a text by an edit.
-fn made(text: &str, edit: Edit) -> Option<Cow<'_, str>> {
+/// What the call for an edit makes of a text.
+fn made<'t>(text: &'t str, edit: Edit<'t>) -> Option<Cow<'t, str>> {
     match edit {
-        Cut(start, end) => text.ansi_get(start..end),
+        Cut { start, end } => text.ansi_get(start..end.unwrap_or(usize::MAX)),
         // (the sides of a bad position would panic)
         Left(mid) => text.ansi_get(..mid).map(|_| text.ansi_split_at(mid).0),
         Right(mid) => text.ansi_get(mid..).map(|_| text.ansi_split_at(mid).1),
-        Part(pat, index) => text.ansi_split(pat).nth(index),
+        Part { pat, index } => text.ansi_split(pat).nth(index),
         Prefix(prefix) => text.ansi_strip_prefix(prefix),
         Suffix(suffix) => text.ansi_strip_suffix(suffix),
         Trim => Some(text.ansi_trim()),
@@ -100,9 +88,11 @@ fn expect_edited(tally: &mut Tally, spelled: &str) {
             let got = once.as_deref().and_then(|once| made(once, second));
             let want = twice_edited(&text.plain, first, second);
             tally.expect(got.is_some(), want.is_some(), name);
+            let in_turn = edit(spelled, &[first, second]);
+            tally.expect(in_turn.as_deref(), got.as_deref(), name);
             if let (Some(got), Some(range)) = (got, want) {
                 expect_left(tally, &got, &text, &range, name);
-                if matches!(second, Cut(..) | Left(_) | Right(_) | Part(..)) {
+                if matches!(second, Cut { .. } | Left(_) | Right(_) | Part { .. }) {
                     let open = Text::new(&got).style_at(usize::MAX).start();
                     tally.expect(&*open, "", name);
                 }
@@ -113,5 +103,5 @@ fn expect_edited(tally: &mut Tally, spelled: &str) {
 
 #[test]
 fn whole_texts_are_edited_as_their_plain_texts() {
-    assert_eq!(compare(&PIECES, 4, expect_edited), 2_508_183);
+    assert_eq!(compare(&PIECES, 4, expect_edited), 3_468_272);
 }
