@@ -77,16 +77,29 @@ MADE = {
     "lines": lambda text, width, *_: [ansi_str.lines(text, int(width)), list(ansi_str.iter_lines(text, int(width)))],
     "link_at": lambda text, position: [ansi_str.link_at(text, position)],
     "sanitize": lambda text, rest, links: [ansi_str.sanitize(text, show=rest == "Show", links=links == "Keep")],
+    "sanitize_bytes": lambda data, rest, links: [ansi_str.sanitize(text, show=rest == "Show", links=links == "Keep")
+                                                 for text in (data, data.decode("utf-8", "surrogateescape"))],
     "is_safe": lambda text, links: [ansi_str.is_safe(text, links=links == "Keep")],
 }
 
 
+def bytes_of(field):
+    """The bytes of a text, which begins with `x`."""
+    pieces = re.findall(r"(?:(\d+)\*)?([0-9a-f]+)", field)
+    return b"".join(bytes.fromhex(digits) * int(count or 1) for count, digits in pieces)
+
+
 def field_of(field):
-    """A text, which begins with `x`, None for `-`, or another field as it is."""
+    """A text, None for `-`, or another field as it is."""
     if field[0] != "x":
         return None if field == "-" else field
-    pieces = re.findall(r"(?:(\d+)\*)?([0-9a-f]+)", field)
-    return b"".join(bytes.fromhex(digits) * int(count or 1) for count, digits in pieces).decode()
+    return bytes_of(field).decode()
+
+
+def fields_of(line):
+    """The fields of a row. `sanitize_bytes` takes bytes in place of a text."""
+    fields = line.split()
+    return [bytes_of(field) if place == 5 and fields[2] == "sanitize_bytes" else field_of(field) for place, field in enumerate(fields)]
 
 
 def in_characters(plain, position):
@@ -140,7 +153,7 @@ class Rows(unittest.TestCase):
             lines = file.read().split("\n")
         for number, line in enumerate(lines, start=1):
             try:
-                fields = [field_of(field) for field in line.split()]
+                fields = fields_of(line)
             except UnicodeDecodeError:
                 over["not UTF-8"] += 1
                 continue
@@ -195,7 +208,8 @@ class Arguments(unittest.TestCase):
             surrogate = isinstance(wrong, str)
             kind, words = (UnicodeEncodeError, "has a lone surrogate") if surrogate else (TypeError, "must be a str, not " + type(wrong).__name__)
             for name, more in CALLS.items():
-                self.refused(kind, "text " + words, getattr(ansi_str, name), wrong, *more)
+                if name != "sanitize" or not isinstance(wrong, bytes):
+                    self.refused(kind, "text " + words, getattr(ansi_str, name), wrong, *more)
             for name in PATTERNED:
                 self.refused(kind, "pattern " + words, getattr(ansi_str, name), "a", wrong, *CALLS[name][1:])
             for step in (ansi_str.Prefix(wrong), ansi_str.Suffix(wrong), ansi_str.Part(wrong, 0)):
@@ -232,6 +246,23 @@ class Arguments(unittest.TestCase):
             for call in (ansi_str.pad, ansi_str.fit):
                 self.refused(ValueError, "alignment must be one of left, center, right", call, "abc", 1, wrong)
             self.refused(ValueError, "side must be one of end, start, middle", ansi_str.truncate, "abc", 1, "", wrong)
+
+    def test_bytes_are_made_safe(self):
+        for data in (b"caf\xe9\x1b[2J", "caf\u00e9\x1b[2J".encode(), b"", b"\xff" * 100000, bytes(range(256))):
+            decoded = data.decode("utf-8", "replace")
+            for options in ({}, {"show": True}, {"links": True}):
+                wanted = ansi_str.sanitize(decoded, **options)
+                self.assertEqual(ansi_str.sanitize(data, **options), wanted)
+                self.assertEqual(ansi_str.sanitize(data.decode("utf-8", "surrogateescape"), **options), wanted)
+        # (surrogates that are the bytes of a character)
+        self.assertEqual(ansi_str.sanitize("\udcc3\udca9"), "\u00e9")
+        self.assertEqual(ansi_str.sanitize(os.fsdecode(b"no\xff")), "no\ufffd")
+        for wrong in (bytearray(b"a"), memoryview(b"a"), [97]):
+            self.refused(TypeError, "text must be a str, not " + type(wrong).__name__, ansi_str.sanitize, wrong)
+        self.refused(UnicodeEncodeError, "text has a lone surrogate", ansi_str.sanitize, "\udce9\ud800")
+        for name, more in CALLS.items():
+            if name != "sanitize":
+                self.refused(UnicodeEncodeError, "text has a lone surrogate", getattr(ansi_str, name), "caf\udce9", *more)
 
     def test_positions_past_the_end(self):
         for plain in ("abc", "é", ""):
@@ -298,6 +329,17 @@ class Arguments(unittest.TestCase):
         self.assertEqual(style_after("38;5;200;48;2;1;2;3")[1:3], (200, (1, 2, 3)))
         for code in ("58;5;1", 11):
             self.assertEqual(style_after(code)[:4], (set(), None, None, True))
+
+    def test_styles_that_print_differently_differ(self):
+        red, unknown = style_after(31), style_after("31m\x1b[99")
+        self.assertEqual([red.end, unknown.end], ["\x1b[39m", "\x1b[39m\x1b[0m"])
+        self.assertNotEqual(red, unknown)
+        codes = (0, 1, 3, 31, 32, 91, "38;5;1", "38;2;1;1;1", 41, "58;5;1", 11, 12, 20, 53, 73, 99)
+        styles = [style_after("%sm\x1b[%s" % (first, second)) for first in codes for second in codes]
+        for style in styles:
+            for other in styles:
+                if (style.start, style.end) != (other.start, other.end):
+                    self.assertNotEqual(style, other)
 
     def test_long_texts(self):
         for text in ("x" * 100000, "\x1b[1mé" * 50000, "\x1b]" * 50000, "\x1b[31;42;1;3;4m" + "a\x1b[5m" * 30000):

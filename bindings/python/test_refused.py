@@ -10,9 +10,9 @@ from ansi_str import _library
 ALLOCATOR = ctypes.CDLL(None)
 ALLOCATOR.held.restype = ctypes.c_long
 TEXTS = ["", "red, fox", "\x1b[1;31mred\x1b]0;t\x07, \x1b[4m\tfox\x1b[0m", "\x1b[1mr\u00e9d\x1b[0m, \u65e5\x1b[31m", "\x1b[1m,\x1b[3ma" * 40]
-CUT, LEFT, RIGHT, PART, PREFIX, SUFFIX, TRIM, TRUNCATE, PAD, SANITIZE, LINK_AT, SLICE, EXPAND_TABS = range(13)
+CUT, LEFT, RIGHT, PART, PREFIX, SUFFIX, TRIM, TRUNCATE, FIT, PAD, SANITIZE, LINK_AT, SLICE, EXPAND_TABS = range(14)
 STEPS = [(CUT, 1, 4, b""), (LEFT, 3, 0, b""), (RIGHT, 3, 0, b""), (PART, 1, 0, b","), (PREFIX, 0, 0, b"r"), (SUFFIX, 0, 0, b"x"),
-         (TRIM, 0, 0, b""), (TRUNCATE, 3, 0, b"..."), (PAD, 300, 1, b""), (SANITIZE, 1, 0, b""), (LINK_AT, 1, 0, b""),
+         (TRIM, 0, 0, b""), (TRUNCATE, 3, 0, b"..."), (FIT, 3, 0, b"..."), (PAD, 300, 1, b""), (SANITIZE, 1, 0, b""), (LINK_AT, 1, 0, b""),
          (SLICE, 1, 5, b""), (EXPAND_TABS, 4, 0, b"")]
 WHAT = range(9)
 # so often each request is refused, and what the interpreter may keep for later calls
@@ -20,6 +20,8 @@ TIMES, KEPT = 40, 20
 
 
 def calls():
+    for data in (b"\xff", b"\x1b[1mcaf\xe9" * 40):
+        yield lambda: _library.edit(data, False, ((SANITIZE, 1, 0, b""),))
     for text in TEXTS:
         data = text.encode()
         is_ascii = len(data) == len(text)

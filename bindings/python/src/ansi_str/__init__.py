@@ -9,6 +9,7 @@ Each call raises
 - a TypeError that names the argument, if a text or a pattern isn't a `str`;
 - a UnicodeEncodeError, which is a ValueError, for a lone surrogate;
 - a ValueError for a position below 0.
+`sanitize` also takes `bytes`, and the surrogates of a file's name that isn't UTF-8.
 
 The calls, each of which has an example in its own help, such as `help(ansi_str.cut)`:
 
@@ -103,12 +104,12 @@ def _loaded() -> Any:
 _library = _loaded()
 
 
-def _utf8(name: str, text: str) -> bytes:
+def _utf8(name: str, text: str, errors: str = "strict") -> bytes:
     if not isinstance(text, str):
         raise TypeError("{} must be a str, not {}".format(name, type(text).__name__))
     try:
         # (a subclass may have an `encode` of its own)
-        return str.encode(text)
+        return str.encode(text, "utf-8", errors)
     except UnicodeEncodeError as fault:
         fault.reason = name + " has a lone surrogate"
         raise
@@ -270,18 +271,24 @@ def is_whole(text: str) -> bool:
     return _told(_IS_WHOLE, text)  # type: ignore[no-any-return]
 
 
-def sanitize(text: str, *, show: bool = False, links: bool = False) -> str:
+def sanitize(text: Union[str, bytes], *, show: bool = False, links: bool = False) -> str:
     """The text made safe, so that it can't drive the terminal. Printing characters, TAB, line feeds, carriage returns directly
     before a line feed and SGRs stay, and with `links` links (OSC 8) of printable ASCII. Any other sequence, lone ESC, control
     character or bidirectional control is dropped, or with `show` shown in printing characters. The link and then the style still
     open at the end are closed.
 
+    The text may be `bytes`: then what isn't UTF-8 becomes U+FFFD, as by `bytes.decode(errors="replace")`. A `str` whose
+    surrogates stand for such bytes (PEP 383, `surrogateescape`), as in a file's name, is made safe as these bytes are.
+
     >>> sanitize("\\x1b[2J\\x1b[31mred\\x07")
     '\\x1b[31mred\\x1b[39m'
     >>> sanitize("\\x1b[2Ja\\x9b", show=True)
     '^[[2Ja<U+009B>'
+    >>> sanitize(b"caf\\xe9"), sanitize("caf\\udce9")
+    ('caf\ufffd', 'caf\ufffd')
     """
-    return _edited(text, (_SANITIZE, 1 if show else 0, 1 if links else 0, b""))  # type: ignore[no-any-return]
+    data = text if isinstance(text, bytes) else _utf8("text", text, "surrogateescape")
+    return _library.edit(data, False, ((_SANITIZE, 1 if show else 0, 1 if links else 0, b""),))  # type: ignore[no-any-return]
 
 
 def is_safe(text: str, *, links: bool = False) -> bool:

@@ -12,7 +12,7 @@
 /* other threads may run during a call on a text of this many bytes or more */
 enum { LONG = 1 << 16 };
 
-/* kinds beside those of edits */
+/* kinds beside those of edits; SANITIZE takes any bytes */
 enum { TRUNCATE = ANSI_STR_EDIT_TRIM + 1, FIT, PAD, SANITIZE, LINK_AT, SLICE, EXPAND_TABS, STRIP, KINDS };
 
 /* the questions about a text: those up to IS_SAFE are yes or no, FIND and FITTING return a position, the others columns */
@@ -91,7 +91,8 @@ static ansi_str_answer write_step(const Text *text, const ansi_str_edit_step *st
     case PAD:
         return ansi_str_raw_pad(text->bytes, text->size, step->first, (uint32_t)step->second, room->bytes, room->size);
     case SANITIZE:
-        return ansi_str_raw_sanitize(text->bytes, text->size, (uint32_t)step->first, (uint32_t)step->second, room->bytes, room->size);
+        return ansi_str_raw_sanitize_bytes(text->bytes, text->size, (uint32_t)step->first, (uint32_t)step->second, room->bytes,
+                                           room->size);
     case LINK_AT:
         return ansi_str_raw_link_at(text->bytes, text->size, step->first, room->bytes, room->size);
     case SLICE:
