@@ -187,8 +187,9 @@ export function linkAt(text: string, position: number): string | null;
  * The text made safe, so that it can't drive the terminal. Printing characters, TAB, line feeds, carriage returns directly before a
  * line feed and SGRs stay, and with `links` links (OSC 8) of printable ASCII. Any other sequence, lone ESC, control character or
  * bidirectional control is dropped, or with `show` shown in printing characters. The link and style still open at the end are closed.
+ * Bytes are decoded first: what isn't UTF-8 becomes U+FFFD, as by `TextDecoder`, and a byte order mark stays.
  */
-export function sanitize(text: string, options?: { show?: boolean; links?: boolean }): string;
+export function sanitize(text: string | Uint8Array, options?: { show?: boolean; links?: boolean }): string;
 
 /** Whether the text is safe: whether `sanitize` would drop nothing. A style or a link may be open at its end. */
 export function isSafe(text: string, options?: { links?: boolean }): boolean;

@@ -117,6 +117,11 @@ const raw = {
       (exports, frame) => exports.ansi_str_raw_sanitize(...frame.head, ...frame.texts[0], rest, links, ...frame.out), written);
   },
 
+  sanitizeBytes(bytes, rest, links) {
+    return called([bytes], [], roomForOne(bytes),
+      (exports, frame) => exports.ansi_str_raw_sanitize_bytes(...frame.head, ...frame.texts[0], rest, links, ...frame.out), written);
+  },
+
   isSafe(text, links) {
     return called([text], [], roomFor(0), (exports, frame) => exports.ansi_str_raw_is_safe(frame.head[0], ...frame.texts[0], links), told) !== null;
   },
@@ -401,8 +406,12 @@ export function linkAt(text, position) {
   return raw.linkAt(text, isAscii(text) ? place : placeOf(raw.strip(text), place));
 }
 
+// (an array of another realm is no instance of this one's class)
+const isBytes = (value) => ArrayBuffer.isView(value) && value[Symbol.toStringTag] === 'Uint8Array';
+
 export function sanitize(text, { show = false, links = false } = {}) {
-  return raw.sanitize(textOf('text', text), show ? 1 : 0, links ? 1 : 0);
+  const policy = [show ? 1 : 0, links ? 1 : 0];
+  return isBytes(text) ? raw.sanitizeBytes(text, ...policy) : raw.sanitize(textOf('text', text), ...policy);
 }
 
 export function isSafe(text, { links = false } = {}) {

@@ -126,9 +126,13 @@ class Frame {
     return place;
   }
 
-  /** Writes a text, and returns its place and length. */
+  /** Writes a text, or bytes as they are, and returns their place and length. */
   put(text) {
     const place = this.take(3 * text.length);
+    if (typeof text !== 'string') {
+      this.bytes.set(text, place);
+      return [BigInt(place), BigInt(text.length)];
+    }
     let length = 0;
     if (text.length < FEW) {
       for (let unit; length < text.length && (unit = text.charCodeAt(length)) < 0x80; length++) {

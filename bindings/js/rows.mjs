@@ -29,22 +29,23 @@ function decoded(bytes) {
 /** The text of a string of one unit for each byte, or null if the bytes aren't UTF-8. */
 const textOf = (units) => (/^[\0-\x7f]*$/.test(units) ? units : decoded(Uint8Array.from(units, (unit) => unit.charCodeAt(0))));
 
-/** A field: a text, which begins with `x`, or another field as it is. Null for a text that isn't UTF-8. */
-function fieldOf(field) {
-  if (field[0] !== 'x') {
-    return field;
-  }
-  const pieces = field.slice(1).split('+').map((piece) => {
-    const [digits, count = 1] = piece.split('*').reverse();
-    return digits.replace(/../g, (pair) => String.fromCharCode(parseInt(pair, 16))).repeat(count);
-  });
-  return textOf(pieces.join(''));
-}
+/** The bytes of a text, which begins with `x`, as a string of one unit for each. */
+const unitsOf = (field) => field.slice(1).split('+').map((piece) => {
+  const [digits, count = 1] = piece.split('*').reverse();
+  return digits.replace(/../g, (pair) => String.fromCharCode(parseInt(pair, 16))).repeat(count);
+}).join('');
+
+/** A field: a text, or another field as it is. Null for a text that isn't UTF-8. */
+const fieldOf = (field) => (field[0] === 'x' ? textOf(unitsOf(field)) : field);
+
+/** The fields of a row. `sanitize_bytes` takes bytes in place of a text. */
+const rowOf = (fields) => fields.map((field, place) => (
+  place === 3 && fields[0] === 'sanitize_bytes' ? Uint8Array.from(unitsOf(field), (unit) => unit.charCodeAt(0)) : fieldOf(field)));
 
 /** The rows: a call, its status, its result, a text, and what else the call takes or returns; or why no such row can be read. */
 export async function rows() {
   const lines = (await read(new URL('../../crates/ansi_rows/stdin', import.meta.url))).split('\n').filter((line) => line !== '');
-  return lines.map((line) => line.split(' ').slice(2).map(fieldOf)).map((row) => (row.includes(null) ? ['not UTF-8'] : row));
+  return lines.map((line) => rowOf(line.split(' ').slice(2))).map((row) => (row.includes(null) ? ['not UTF-8'] : row));
 }
 
 /** Converts a position in bytes to units. Null if it is inside a character. */
@@ -135,6 +136,7 @@ function answersOf(call, found, want, text, more) {
     case 'link_at':
       return [[linkAt(text, first), found]];
     case 'sanitize':
+    case 'sanitize_bytes':
       return [[sanitize(text, { show: first === 'Show', links: second === 'Keep' }), want]];
     case 'is_safe':
       return [[isSafe(text, { links: first === 'Keep' }), found !== null]];

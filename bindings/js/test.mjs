@@ -2,6 +2,7 @@
 import assert from 'node:assert/strict';
 import { readFile } from 'node:fs/promises';
 import { test } from 'node:test';
+import { runInNewContext } from 'node:vm';
 import {
   OutOfMemoryError, blocks, columnOf, cut, edit, endsWith, expandTabs, find, fit, fitting, floorCharBoundary, hasAny, isSafe, isWhole, iterBlocks, iterLines, iterSplit, lines, linkAt,
   pad, sanitize, sliceColumns, split, splitAt, startsWith, strip, stripPrefix, stripSuffix, trim, truncate, width, wrap,
@@ -113,6 +114,39 @@ test('a policy has defaults: what may not stand is dropped, and so are links', (
   assert.equal(isSafe(text.slice(0, -1), { links: true }), true);
 });
 
+test('bytes are made safe', () => {
+  const every = Uint8Array.from({ length: 256 }, (_, byte) => byte);
+  for (const bytes of [Buffer.from('caf\xe9\x1b[2J', 'latin1'), new Uint8Array(), new Uint8Array(1e5).fill(255), every, every.subarray(200, 210)]) {
+    const decoded = new TextDecoder('utf-8', { ignoreBOM: true }).decode(bytes);
+    for (const options of [{}, { show: true }, { links: true }]) {
+      assert.equal(sanitize(bytes, options), sanitize(decoded, options));
+    }
+  }
+  assert.equal(sanitize(runInNewContext('Uint8Array.of(255)')), '\ufffd');
+  for (const wrong of [Int8Array.of(1), new DataView(new ArrayBuffer(1)), new ArrayBuffer(1), [1], { length: 1 }]) {
+    assert.throws(() => sanitize(wrong), /the text must be a string/);
+  }
+  assert.throws(() => sanitize('a\ud800'), /lone surrogate/);
+  for (const call of Object.values(ansiStr).filter((call) => call !== OutOfMemoryError && call !== sanitize)) {
+    assert.throws(() => call(every), /must be a string/);
+  }
+});
+
+test('styles that print differently differ', () => {
+  const [red, unknown] = ['\x1b[31mx', '\x1b[31m\x1b[99mx'].map((text) => blocks(text)[0].style);
+  assert.deepEqual([red.end, unknown.end], ['\x1b[39m', '\x1b[39m\x1b[0m']);
+  assert.notDeepEqual(red, unknown);
+  const codes = ['0', '1', '3', '31', '32', '91', '38;5;1', '38;2;1;1;1', '41', '58;5;1', '11', '12', '20', '53', '73', '99'];
+  const styles = codes.flatMap((first) => codes.map((second) => blocks(`\x1b[${first}m\x1b[${second}mx`)[0].style));
+  for (const one of styles) {
+    for (const other of styles) {
+      if (one.start !== other.start || one.end !== other.end) {
+        assert.notDeepEqual(one, other);
+      }
+    }
+  }
+});
+
 test('a style has names', () => {
   const [{ style }] = blocks('\x1b[1;3;91;48;2;1;2;3mx');
   assert.deepEqual(style.attributes, ['bold', 'italic']);
@@ -146,7 +180,8 @@ test('memory is asked for and given back, and lack of it leaves the module fit f
     return grow.call(this, pages);
   };
   try {
-    for (const call of [strip, blocks, (text) => split(text, ' '), (text) => wrap(text, 5)]) {
+    const sanitizeBytes = (text) => sanitize(Buffer.from(text));
+    for (const call of [strip, blocks, (text) => split(text, ' '), (text) => wrap(text, 5), sanitizeBytes]) {
       assert.throws(() => call(long), OutOfMemoryError);
       assert.equal(strip('\x1b[1ma'), 'a');
     }
