@@ -386,9 +386,10 @@ class Arguments(unittest.TestCase):
 
     def test_help(self):
         for name in CALLS:
-            words = [word.name if word.default is word.empty else "%s=%r" % (word.name, word.default)
-                     for word in inspect.signature(getattr(ansi_str, name)).parameters.values()]
-            self.assertIn("%s(%s)" % (name, ", ".join(words)), ansi_str.__doc__)
+            signature = inspect.signature(getattr(ansi_str, name))
+            words = [word.replace(annotation=word.empty) for word in signature.parameters.values()]
+            shown = signature.replace(parameters=words, return_annotation=signature.empty)
+            self.assertIn("%s%s" % (name, shown), ansi_str.__doc__)
 
     @unittest.skipIf(sys.version_info < (3, 8), "this Python has no Literal")
     def test_the_types_of_words(self):

@@ -11,7 +11,7 @@ Each call raises
 - a ValueError for a position below 0.
 `sanitize` also takes `bytes`, and the surrogates of a file's name that isn't UTF-8.
 
-The calls, each of which has an example in its own help, such as `help(ansi_str.cut)`:
+The calls, each of which has an example in its own help, such as `help(ansi_str.cut)`. What follows a `*` is given by its name only:
 
     strip(text)                        has_any(text)
     cut(text, start=0, end=None)       is_whole(text)
@@ -25,8 +25,8 @@ The calls, each of which has an example in its own help, such as `help(ansi_str.
     iter_split(text, pattern)          fit(text, width, alignment='left', tail='')
     blocks(text)                       wrap(text, width, first_indent='', indent='')
     iter_blocks(text)                  edit(text, edits)
-    link_at(text, position)            is_safe(text, links=False)
-    lines(text, width)                 sanitize(text, show=False, links=False)
+    link_at(text, position)            is_safe(text, *, links=False)
+    lines(text, width)                 sanitize(text, *, show=False, links=False)
     iter_lines(text, width)            slice_columns(text, start=0, end=None)
     expand_tabs(text, stop=8)          column_of(text, position)
 
@@ -161,10 +161,13 @@ def strip(text: str) -> str:
 
 
 def cut(text: str, start: int = 0, end: Optional[int] = None) -> str:
-    """The text from one position up to another, each character in its style. ValueError: the end is below the start.
+    """The text from one position up to another, each character in its style. All sequences up to the end of the cut stay, those
+    before its start too. Then the style still open is closed. ValueError: the end is below the start.
 
     >>> cut("\\x1b[30mTEXT\\x1b[39m", 1, 3)
     '\\x1b[30mEX\\x1b[39m'
+    >>> cut("\\x1b[1ma\\x1b[0m\\x1b[31mred", 1, 2)
+    '\\x1b[1m\\x1b[0m\\x1b[31mr\\x1b[39m'
     """
     edited = _edited(text, _cut_step(start, end))
     if edited is None:
