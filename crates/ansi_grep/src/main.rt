@@ -8,29 +8,23 @@
 //!
 //! Line ends and statuses are those of `grep`. A line ends at a line feed, and a carriage return
 //! before it is part of the line, and stays. A last line without a line feed gets one. The status
-//! is 0 if a line matches, 1 if none does, and 2 after an error. If nobody reads the output any
-//! more, as after `head`, the program ends without a message and with the status 141, which a shell
-//! shows of a `grep` there.
+//! is 0 if a line matches, 1 if none does, and 2 after an error.
 #![tactic(auto)]
 
 use ansi_safe::policy::{Links, Policy, Rest};
 use ansi_safe::safe::sanitize;
 use ansi_str::ansitok::{Kind, Scanner};
 use ansi_str::{AnsiStr, get_blocks};
-use anyhow::Context;
+use short_programs::{Stop, end, lines, missing, print_line, refuse_after, text_of, words};
 use std::alloc::{AllocError, Global};
-use std::io::{BufRead, ErrorKind};
+use std::iter;
 use std::process::ExitCode;
-use std::{env, iter};
 
 const FOUND: u8 = 0;
 
 const NOT_FOUND: u8 = 1;
 
 const FAILED: u8 = 2;
-
-// 128 and the number of the signal SIGPIPE
-const OUTPUT_CLOSED: u8 = 141;
 
 // The line with each match of the pattern marked: inverse, or not inverse in text that is inverse
 // already. All sequences stay, and a mark is closed before each.
@@ -82,24 +76,17 @@ fn shown(alloc: Global, line: &str, pattern: &str) -> Result<String, AllocError>
 }
 
 // Prints the lines that contain the text. Returns the status.
-fn print_found(rt: &HostRuntime) -> anyhow::Result<u8> {
+fn print_found(rt: &HostRuntime) -> Result<u8, Stop> {
     let alloc = rt.alloc();
-    let pattern = env::args(rt)?.nth(1).context("no text to find is given")?;
-    let mut input = rt.reader();
-    let mut line = String::new(alloc);
+    let words = words(rt)?;
+    let pattern = words.first().ok_or(missing("text to find"))?.as_str();
+    refuse_after(alloc, words.as_slice(), 1)?;
     let mut status = NOT_FOUND;
-    for number in 1..u64::MAX {
-        line.clear();
-        if input.read_line(&mut line)? == 0 {
-            break;
-        }
-        let text = line.as_str().strip_suffix('\n').unwrap_or(line.as_str());
-        if text.ansi_find(pattern.as_str()).is_some() {
-            let shown = shown(alloc, text, pattern.as_str())?;
-            match println!(rt; "{number}: {shown}") {
-                Err(error) if error.kind() == ErrorKind::BrokenPipe => return Ok(OUTPUT_CLOSED),
-                printed => printed?,
-            }
+    for (number, line) in (1..u64::MAX).zip(lines(rt)?) {
+        let line = text_of(alloc, line)?;
+        if line.ansi_find(pattern).is_some() {
+            let shown = shown(alloc, line.as_str(), pattern)?;
+            print_line(rt, format!(in alloc; "{number}: {shown}")?.as_str())?;
             status = FOUND;
         }
     }
@@ -107,11 +94,5 @@ fn print_found(rt: &HostRuntime) -> anyhow::Result<u8> {
 }
 
 fn main(rt: HostRuntime) -> ExitCode {
-    match print_found(&rt) {
-        Ok(status) => ExitCode::from(status),
-        Err(error) => {
-            let _ = eprintln!(rt; "Error: {error:?}");
-            ExitCode::from(FAILED)
-        }
-    }
+    end(&rt, "ansi_grep", FAILED, print_found(&rt))
 }
