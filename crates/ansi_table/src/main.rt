@@ -8,10 +8,14 @@
 
 use ansi_columns::{Alignment, AnsiColumns, Side, Truncation};
 use ansi_str::AnsiStr;
-use anyhow::Context;
+use short_programs::{Stop, end, lines, missing, print_line, text_of, width_of, words};
 use std::alloc::{AllocError, Global};
-use std::env;
 use std::fmt::Write;
+use std::process::ExitCode;
+
+const DONE: u8 = 0;
+
+const FAILED: u8 = 1;
 
 // Whether a text is a path: it has a slash and no blank.
 fn is_path(plain: &str) -> bool {
@@ -48,15 +52,31 @@ fn row_of(alloc: Global, line: &str, widths: &[usize]) -> Result<String, AllocEr
     Ok(row)
 }
 
-fn main(rt: HostRuntime) -> anyhow::Result<()> {
+// The widths that the words name.
+fn widths_of(rt: &HostRuntime) -> Result<Vec<usize>, Stop> {
+    let words = words(rt)?;
+    if words.is_empty() {
+        return Err(missing("width"));
+    }
+    let mut widths = Vec::new(rt.alloc());
+    for word in &words {
+        widths.push(width_of(rt.alloc(), word.as_str())?)?;
+    }
+    Ok(widths)
+}
+
+// Prints the row of each line of the input. Returns the status.
+fn print_rows(rt: &HostRuntime) -> Result<u8, Stop> {
     let alloc = rt.alloc();
-    let mut widths = Vec::new(alloc);
-    for word in env::args(&rt)?.skip(1) {
-        widths.push(word.parse::<usize>().context("a width is a number")?)?;
+    let widths = widths_of(rt)?;
+    for line in lines(rt)? {
+        let line = text_of(alloc, line)?;
+        let text = line.as_str().strip_suffix('\r').unwrap_or(line.as_str());
+        print_line(rt, row_of(alloc, text, widths.as_slice())?.as_str())?;
     }
-    for line in rt.lines(alloc) {
-        let row = row_of(alloc, line?.as_str(), widths.as_slice())?;
-        println!(rt; "{row}")?;
-    }
-    Ok(())
+    Ok(DONE)
+}
+
+fn main(rt: HostRuntime) -> ExitCode {
+    end(&rt, "ansi_table", FAILED, print_rows(&rt))
 }
