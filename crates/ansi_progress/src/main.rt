@@ -11,9 +11,14 @@ use ansi_columns::AnsiColumns;
 use ansi_safe::policy::{Links, Policy, Rest};
 use ansi_safe::safe::sanitize;
 use ansi_str::{AnsiBlock, get_blocks};
-use anyhow::Context;
+use anyhow::anyhow;
+use short_programs::{Stop, end, lines, missing, print_line, refuse_after, text_of, words};
 use std::alloc::{AllocError, Global};
-use std::env;
+use std::process::ExitCode;
+
+const DONE: u8 = 0;
+
+const FAILED: u8 = 1;
 
 const STEPS: u32 = 20;
 
@@ -54,32 +59,45 @@ fn steps_of(alloc: Global, sample: &AnsiBlock<'_>, count: u32) -> Result<String,
     format!(in alloc; "{}{steps}{}", style.start(), style.end())
 }
 
-fn main(rt: HostRuntime) -> anyhow::Result<()> {
-    let alloc = rt.alloc();
+// The progress line of a task.
+fn line_of(
+    alloc: Global,
+    task: &Task<'_>,
+    done: &AnsiBlock<'_>,
+    left: &AnsiBlock<'_>,
+) -> Result<String, AllocError> {
     let policy = Policy {
         rest: Rest::Drop,
         links: Links::Remove,
     };
-    let sample = env::args(&rt)?.nth(1).context("no sample is given")?;
+    let count = task.done_of(STEPS);
+    let steps_done = steps_of(alloc, done, count)?;
+    let steps_left = steps_of(alloc, left, STEPS - count)?;
+    let name = sanitize(alloc, task.name, policy)?;
+    let blanks = " ".repeat(alloc, NAME_COLUMNS.saturating_sub(name.ansi_width()))?;
+    let percent = task.done_of(100);
+    format!(in alloc; "{blanks}{name} {steps_done}{steps_left} {percent:>3}%")
+}
+
+// Prints the progress line of each line of the input. Returns the status.
+fn print_progress(rt: &HostRuntime) -> Result<u8, Stop> {
+    let alloc = rt.alloc();
+    let words = words(rt)?;
+    let sample = words.first().ok_or(missing("sample"))?;
+    refuse_after(alloc, words.as_slice(), 1)?;
     let mut blocks = get_blocks(alloc, sample.as_str());
-    let done = blocks
-        .next()
-        .context("the sample has no step that is done")??;
-    let left = blocks
-        .next()
-        .context("the sample has no step that is left")??;
-    for line in rt.lines(alloc) {
-        let line = line?;
-        let task = Task::parse(line.as_str()).context("a line is NAME DONE TOTAL")?;
-        let count = task.done_of(STEPS);
-        let steps_done = steps_of(alloc, &done, count)?;
-        let steps_left = steps_of(alloc, &left, STEPS - count)?;
-        let name = sanitize(alloc, task.name, policy)?;
-        let blanks = " ".repeat(alloc, NAME_COLUMNS.saturating_sub(name.ansi_width()))?;
-        println!(rt;
-            "{blanks}{name} {steps_done}{steps_left} {:>3}%",
-            task.done_of(100)
-        )?;
+    let done = blocks.next().ok_or(missing("step that is done"))??;
+    let left = blocks.next().ok_or(missing("step that is left"))??;
+    for (number, line) in (1..u64::MAX).zip(lines(rt)?) {
+        let line = text_of(alloc, line)?;
+        let Some(task) = Task::parse(line.as_str()) else {
+            return Err(Stop::Failed(anyhow!("line {number} isn't NAME DONE TOTAL")));
+        };
+        print_line(rt, line_of(alloc, &task, &done, &left)?.as_str())?;
     }
-    Ok(())
+    Ok(DONE)
+}
+
+fn main(rt: HostRuntime) -> ExitCode {
+    end(&rt, "ansi_progress", FAILED, print_progress(&rt))
 }
