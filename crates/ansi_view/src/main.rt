@@ -1,6 +1,9 @@
 //! Makes a stranger's text safe for a terminal, line by line, as it comes.
 #![tactic(auto)]
 
+mod named;
+
+use crate::named::Named;
 use ansi_io::host::{HostIn, HostOut};
 use ansi_lines_runs::runs::prepare;
 use ansi_view_runs::runs::run;
@@ -10,7 +13,7 @@ use std::process::ExitCode;
 
 fn main(rt: HostRuntime) -> ExitCode {
     let mut input = HostIn::new(rt.stdin());
-    let mut faults = HostOut::new(rt.stderr());
+    let mut faults = Named::new(HostOut::new(rt.stderr()));
     let words = words_given(&rt);
     let output = BufWriter::new(rt.alloc(), rt.stdout()).map(HostOut::new);
     let status = match prepare(words, output, &mut faults) {
