@@ -7,7 +7,9 @@ const TOO_SMALL = 4;
 const OUT_OF_MEMORY = 5;
 
 const PAGE = 65536;
-/** More pages than any memory has. */
+/** What begins at a multiple of this many bytes is aligned. */
+const UNIT = 16;
+/** More pages than any memory has, and the largest number that a request for pages may have. */
 const ANY_PAGES = 2 ** 31;
 /** An arena is this many bytes short of whole pages, which the module's arena leaves to the system. */
 const SHORT = 16;
@@ -15,6 +17,8 @@ const SHORT = 16;
 const KEPT = 16 * 2 ** 20;
 /** An ASCII text of fewer units is copied faster unit by unit. */
 const FEW = 64;
+/** A text of so many units is long. */
+const LONG = 2 ** 24;
 
 /** The size in bytes of the numbers and pointers that a call passes in memory, ahead of texts. */
 const ANSWER = 32;
@@ -23,7 +27,9 @@ const STEP = 40;
 const ENTRY = 48;
 export const END = 8;
 export const LINE = 16;
-const WALK = 64;
+/** The largest state of a walk, and the largest item. */
+const WALK = 80;
+const ITEM = 48;
 
 const encoder = new TextEncoder();
 const decoder = new TextDecoder('utf-8', { ignoreBOM: true });
@@ -36,41 +42,40 @@ export class OutOfMemoryError extends Error {
   }
 }
 
-async function compiled() {
-  const url = new URL('ansi_str.wasm', import.meta.url);
-  if (url.protocol === 'file:') {
-    const { readFile } = await import('node:fs/promises');
-    return WebAssembly.compile(await readFile(url));
+/** The error of a package whose module can't be loaded. It says why. */
+export const unloaded = (cause) => new Error(`ansi_str: ansi_str.wasm can't be loaded: ${cause.message}`, { cause });
+
+let compiled = null;
+
+/** Takes the compiled module, of which each instance is made. */
+export function use(module) {
+  compiled = module;
+}
+
+/** How many bytes a text has in UTF-8. */
+export function bytesOf(text) {
+  let bytes = text.length;
+  for (let index = 0; index < text.length; index++) {
+    const unit = text.charCodeAt(index);
+    if (unit >= 0x80) {
+      // (a surrogate has half of the four bytes of its pair)
+      bytes += unit < 0x800 || (unit >= 0xd800 && unit < 0xe000) ? 1 : 2;
+    }
   }
-  const response = await fetch(url);
-  if (!response.ok) {
-    throw new Error(`${url}: ${response.status}`);
-  }
-  return WebAssembly.compile(await response.arrayBuffer());
+  return bytes;
 }
 
-// (an empty module with a memory of 64 bits)
-if (!WebAssembly.validate(new Uint8Array([0, 97, 115, 109, 1, 0, 0, 0, 5, 3, 1, 4, 0]))) {
-  throw new Error('ansi_str needs WebAssembly with memory of 64 bits: Node 24, or an older one with --experimental-wasm-memory64');
-}
-const module = await compiled();
+/** At least as many bytes as a text has. Those of a long one are counted, since the memory has at most 4 GiB. */
+const mostBytesOf = (text) => (text.length < LONG || typeof text !== 'string' ? 3 * text.length : bytesOf(text));
 
-// (Node 20 takes a number of pages)
-let pagesOf = BigInt;
-try {
-  new WebAssembly.Instance(module).exports.memory.grow(0n);
-} catch {
-  pagesOf = Number;
-}
-
-const padded = (size, unit) => Math.ceil(size / unit) * unit;
+const padded = (size, unit = UNIT) => Math.ceil(size / unit) * unit;
 
 /** An instance of the module, and views of its memory. */
 class Instance {
   constructor() {
-    this.exports = new WebAssembly.Instance(module).exports;
+    this.exports = new WebAssembly.Instance(compiled).exports;
     /** The first byte that the module doesn't use itself. */
-    this.base = padded(Number(this.exports.__heap_base.value), 16);
+    this.base = padded(Number(this.exports.__heap_base.value));
     this.look();
   }
 
@@ -80,11 +85,11 @@ class Instance {
     this.view = new DataView(this.exports.memory.buffer);
   }
 
-  /** Grows the memory to at least this many bytes from the base on. */
+  /** Grows the memory to at least this many bytes. */
   reserve(size) {
-    const lacks = this.base + size - this.bytes.length;
+    const lacks = size - this.bytes.length;
     if (lacks > 0) {
-      this.exports.memory.grow(pagesOf(Math.min(Math.ceil(lacks / PAGE), ANY_PAGES)));
+      this.exports.memory.grow(Math.min(Math.ceil(lacks / PAGE), ANY_PAGES));
       this.look();
     }
   }
@@ -92,22 +97,22 @@ class Instance {
 
 /** The arguments and the result of a call, in the memory of an instance. */
 class Frame {
-  constructor(instance, texts, steps, room, arena) {
-    const size = ANSWER + BLOCK + steps.length * STEP + room.bytes + room.entries * room.entry + 16 * texts.length + 64;
-    // (a unit of UTF-16 has at most 3 bytes)
-    instance.reserve(texts.reduce((sum, text) => sum + 3 * text.length, size) + arena);
-    this.bytes = instance.bytes;
-    this.view = instance.view;
-    this.room = room;
-    this.free = instance.base;
-    this.answer = this.take(ANSWER);
-    this.block = this.take(BLOCK);
-    this.steps = this.take(steps.length * STEP);
+  constructor(instance, texts, steps) {
+    this.instance = instance;
+    /** At least as many bytes as the texts have. */
+    this.size = 0;
+    for (const text of texts) {
+      this.size += mostBytesOf(text);
+    }
+    this.answer = instance.base;
+    this.block = this.answer + ANSWER;
+    this.walk = this.block + BLOCK;
+    this.item = this.walk + WALK;
+    this.steps = this.item + ITEM;
+    this.free = this.steps + padded(steps.length * STEP);
+    this.reserve(this.size + UNIT * texts.length);
     this.texts = texts.map((text) => this.put(text));
-    this.buffer = this.take(room.bytes);
-    this.entries = this.take(room.entries * room.entry);
-    this.setWord(this.block, BigInt(this.take(arena)));
-    this.setWord(this.block + 8, BigInt(arena - SHORT));
+    this.behind = this.free;
     steps.forEach(({ kind, first, second }, index) => {
       const at = this.steps + index * STEP;
       this.view.setUint32(at, kind, true);
@@ -119,16 +124,34 @@ class Frame {
     });
   }
 
+  /** Makes room for the result, and an arena, behind the texts. */
+  lay(room, arena) {
+    this.room = room;
+    this.free = this.behind;
+    this.reserve(room.bytes + room.entries * room.entry + 2 * UNIT + arena);
+    this.buffer = this.take(room.bytes);
+    this.entries = this.take(room.entries * room.entry);
+    this.setWord(this.block, BigInt(this.take(arena)));
+    this.setWord(this.block + 8, BigInt(arena - SHORT));
+  }
+
+  /** Grows the memory so that it has this many free bytes. */
+  reserve(size) {
+    this.instance.reserve(this.free + size);
+    this.bytes = this.instance.bytes;
+    this.view = this.instance.view;
+  }
+
   /** Reserves this many bytes and returns their place. */
   take(size) {
     const place = this.free;
-    this.free += padded(size, 16);
+    this.free += padded(size);
     return place;
   }
 
   /** Writes a text, or bytes as they are, and returns their place and length. */
   put(text) {
-    const place = this.take(3 * text.length);
+    const place = this.take(mostBytesOf(text));
     if (typeof text !== 'string') {
       this.bytes.set(text, place);
       return [BigInt(place), BigInt(text.length)];
@@ -186,21 +209,31 @@ class Frame {
 /** The instance of the next call, or null if there is none yet or the last one used much memory. */
 let kept = null;
 
+/** How large the arena of a call is at first. */
+function arenaOf(texts, room) {
+  let size = room.bytes;
+  for (const text of texts) {
+    size += text.length;
+  }
+  // (the texts of a list are assembled there, from texts that stay)
+  return padded((room.entry > 0 && size < LONG ? 4 : 1) * size + PAGE, PAGE);
+}
+
 /** The error that a caller gets for one of JavaScript's. */
 const named = (error) => (error instanceof RangeError || error.code === 'ERR_STRING_TOO_LONG' ? new OutOfMemoryError() : error);
 
 /**
- * Repeats a call until its result has room and it has enough memory. Returns what `read` makes of the frame, or null if the call
- * has no result.
+ * Repeats a call until its result has room and it has enough memory. The first room is what `roomOf` makes of the size of the texts.
+ * Returns what `read` makes of the frame, or null if the call has no result.
  */
-export function called(texts, steps, room, ask, read) {
-  const size = texts.reduce((sum, text) => sum + text.length, room.bytes);
-  // (the texts of a list are assembled there, from texts that stay)
-  let arena = padded((room.entry > 0 ? 4 : 1) * size + PAGE, PAGE);
+export function called(texts, steps, roomOf, ask, read) {
   try {
+    kept ??= new Instance();
+    const frame = new Frame(kept, texts, steps);
+    let room = roomOf(frame.size);
+    let arena = arenaOf(texts, room);
     for (;;) {
-      kept ??= new Instance();
-      const frame = new Frame(kept, texts, steps, room, arena);
+      frame.lay(room, arena);
       ask(kept.exports, frame);
       const status = frame.status;
       if (status === OK) {
@@ -230,9 +263,15 @@ export function called(texts, steps, room, ask, read) {
   }
 }
 
-export const roomFor = (bytes) => ({ bytes, entries: 0, entry: 0 });
-export const roomForOne = (text) => roomFor(3 * text.length + 1024);
-export const roomForList = (text, entry) => ({ bytes: 3 * text.length + 4096, entries: 256 + Math.floor(text.length / 8), entry });
+const roomFor = (bytes) => ({ bytes, entries: 0, entry: 0 });
+export const noRoom = () => roomFor(0);
+export const roomForOne = (size) => roomFor(size + 1024);
+/** Room for a text with blanks up to this many columns. */
+export const roomForColumns = (columns) => (size) => roomFor(size + columns + 1024);
+/** Room for the texts of a list, whose entries have this size each. */
+export const roomForList = (text, entry) => (size) => ({ bytes: size + 4096, entries: 256 + (text.length >> 3), entry });
+/** Room for entries alone. */
+export const roomForEntries = (text, entry) => () => ({ bytes: 0, entries: 64 + (text.length >> 3), entry });
 
 export const told = (frame) => frame.word(frame.answer + 8);
 export const written = (frame) => frame.text(0, told(frame));
@@ -248,29 +287,33 @@ export function listed(frame) {
   });
 }
 
-/** The frame of a walk, which stays unchanged during other calls. */
-function ownFrame(text, room) {
+/** The items of a walk over texts, each made on demand. Its instance is its own, so its memory stays as it is during other calls. */
+function* walked(texts, begin, next, read) {
+  let frame;
   try {
-    const instance = new Instance();
-    return [instance.exports, new Frame(instance, [text], [], room, SHORT)];
+    frame = new Frame(new Instance(), texts, []);
   } catch (error) {
     throw named(error);
+  }
+  const { exports } = frame.instance;
+  // (a pointer to a text, as each walk has it)
+  frame.setWord(frame.walk, frame.texts[0][0]);
+  begin(exports, frame);
+  for (;;) {
+    next(exports, frame);
+    if (frame.status !== OK) {
+      return;
+    }
+    yield read(frame);
   }
 }
 
 /** The same lines, each searched on demand. */
-export function* iterLines(text, width) {
-  const [exports, frame] = ownFrame(text, { bytes: 0, entries: 1, entry: WALK + LINE });
-  const [answer, walk, line] = [frame.answer, frame.entries, frame.entries + WALK];
-  frame.setWord(walk, frame.texts[0][0]);
-  exports.ansi_str_raw_lines_begin(BigInt(answer), ...frame.texts[0], BigInt(width), BigInt(walk));
-  for (;;) {
-    exports.ansi_str_raw_lines_next(BigInt(answer), BigInt(walk), BigInt(line));
-    if (frame.status !== OK) {
-      return;
-    }
-    yield [frame.word(line), frame.word(line + 8)];
-  }
+export function iterLines(text, width) {
+  return walked([text],
+    (exports, { answer, texts, walk }) => exports.ansi_str_raw_lines_begin(BigInt(answer), ...texts[0], BigInt(width), BigInt(walk)),
+    (exports, { answer, walk, item }) => exports.ansi_str_raw_lines_next(BigInt(answer), BigInt(walk), BigInt(item)),
+    (frame) => [frame.word(frame.item), frame.word(frame.item + 8)]);
 }
 
 // The attributes by their bits, and the colors that codes name by their last digits, and the same bright.

@@ -1,8 +1,4 @@
 // Makes the calls of the rows of texts and results, which rows/README.md describes, in Node and in a page.
-import {
-  blocks, columnOf, cut, edit, endsWith, expandTabs, find, fit, fitting, floorCharBoundary, hasAny, isSafe, isWhole, iterBlocks, iterLines, iterSplit, lines, linkAt, pad, sanitize,
-  sliceColumns, split, splitAt, startsWith, strip, stripPrefix, stripSuffix, trim, truncate, width, wrap,
-} from './index.js';
 
 /** The calls that aren't here. The positions of an edit count the bytes of what the edit before it made. */
 const LACKING = ['is_char_boundary', 'part_interval', 'edit', 'block_order', 'items'];
@@ -56,105 +52,105 @@ export function inUnits(plain, position) {
 }
 
 /** What the calls of a row return, each with what the row says. */
-function answersOf(call, found, want, text, more) {
+function answersOf(ansi, call, found, want, text, more) {
   const [first, second] = more;
   const number = Number(first);
   switch (call) {
     case 'strip':
-      return [[strip(text), want]];
+      return [[ansi.strip(text), want]];
     case 'find':
-      return [[find(text, first), found === null ? -1 : inUnits(strip(text), Number(want))]];
+      return [[ansi.find(text, first), found === null ? -1 : inUnits(ansi.strip(text), Number(want))]];
     case 'cut':
-      return [[edit(text, [['cut', first, second]]), found]];
+      return [[ansi.edit(text, [['cut', first, second]]), found]];
     case 'left':
     case 'right':
-      return [[edit(text, [[call, first]]), found], [splitAt(text, first)[call === 'left' ? 0 : 1], want]];
+      return [[ansi.edit(text, [[call, first]]), found], [ansi.splitAt(text, first)[call === 'left' ? 0 : 1], want]];
     case 'part':
-      return [[edit(text, [['part', first, Math.min(Number(second), Number.MAX_SAFE_INTEGER)]]), found]];
+      return [[ansi.edit(text, [['part', first, Math.min(Number(second), Number.MAX_SAFE_INTEGER)]]), found]];
     case 'strip_prefix':
-      return [[edit(text, [['prefix', first]]), found], [stripPrefix(text, first), found]];
+      return [[ansi.edit(text, [['prefix', first]]), found], [ansi.stripPrefix(text, first), found]];
     case 'strip_suffix':
-      return [[edit(text, [['suffix', first]]), found], [stripSuffix(text, first), found]];
+      return [[ansi.edit(text, [['suffix', first]]), found], [ansi.stripSuffix(text, first), found]];
     case 'starts_with':
-      return [[startsWith(text, first), found !== null]];
+      return [[ansi.startsWith(text, first), found !== null]];
     case 'ends_with':
-      return [[endsWith(text, first), found !== null]];
+      return [[ansi.endsWith(text, first), found !== null]];
     case 'has_any':
-      return [[hasAny(text), found !== null]];
+      return [[ansi.hasAny(text), found !== null]];
     case 'is_whole':
-      return [[isWhole(text), found !== null]];
+      return [[ansi.isWhole(text), found !== null]];
     case 'floor_char_boundary':
-      return [[floorCharBoundary(text, first), inUnits(strip(text), Number(want))]];
+      return [[ansi.floorCharBoundary(text, first), inUnits(ansi.strip(text), Number(want))]];
     case 'trim':
-      return [[edit(text, [['trim']]), want], [trim(text), want]];
+      return [[ansi.edit(text, [['trim']]), want], [ansi.trim(text), want]];
     case 'split':
-      return [[split(text, first), more.slice(1)], [[...iterSplit(text, first)], more.slice(1)]];
+      return [[ansi.split(text, first), more.slice(1)], [[...ansi.iterSplit(text, first)], more.slice(1)]];
     case 'split_at':
-      return [[splitAt(text, first), more.slice(1)]];
+      return [[ansi.splitAt(text, first), more.slice(1)]];
     case 'count_parts':
-      return [[split(text, first).length, Number(want)]];
+      return [[ansi.split(text, first).length, Number(want)]];
     case 'blocks':
-      return [[blocks(text).flatMap(({ text, style }) => [text, style.hasAny ? '1' : '0']), more.filter((_, index) => index % 5 === 0 || index % 5 === 4)]];
+      return [[ansi.blocks(text).flatMap(({ text, style }) => [text, style.hasAny ? '1' : '0']), more.filter((_, index) => index % 5 === 0 || index % 5 === 4)]];
     case 'styled_blocks':
-      return [[blocks(text).flatMap(({ text, style }) => [style.start, text, style.end]), more]];
+      return [[ansi.blocks(text).flatMap(({ text, style }) => [style.start, text, style.end]), more]];
     case 'count_blocks':
-      return [[blocks(text).length, Number(want)], [[...iterBlocks(text)].length, Number(want)]];
+      return [[ansi.blocks(text).length, Number(want)], [[...ansi.iterBlocks(text)].length, Number(want)]];
     case 'block':
-      return [[blocks(text)[number]?.text ?? null, found]];
+      return [[ansi.blocks(text)[number]?.text ?? null, found]];
     case 'block_start':
-      return [[blocks(text)[number]?.style.start ?? null, found]];
+      return [[ansi.blocks(text)[number]?.style.start ?? null, found]];
     case 'block_end':
-      return [[blocks(text)[number]?.style.end ?? null, found]];
+      return [[ansi.blocks(text)[number]?.style.end ?? null, found]];
     case 'width':
-      return [[width(text), Number(want)]];
+      return [[ansi.width(text), Number(want)]];
     case 'fitting':
-      return [[fitting(text, number), inUnits(strip(text), Number(want))]];
+      return [[ansi.fitting(text, number), inUnits(ansi.strip(text), Number(want))]];
     case 'column_of':
-      return [[columnOf(text, first), Number(want)]];
+      return [[ansi.columnOf(text, first), Number(want)]];
     case 'front':
-      return [[cut(text, 0, fitting(text, number)), want]];
+      return [[ansi.cut(text, 0, ansi.fitting(text, number)), want]];
     case 'truncate':
-      return [[truncate(text, number, second), want]];
+      return [[ansi.truncate(text, number, second), want]];
     case 'pad':
-      return [[pad(text, number, second.toLowerCase()), want]];
+      return [[ansi.pad(text, number, second.toLowerCase()), want]];
     case 'fit':
-      return [[fit(text, number, second.toLowerCase(), more[2]), want]];
+      return [[ansi.fit(text, number, second.toLowerCase(), more[2]), want]];
     case 'truncate_with':
-      return [[truncate(text, number, { tail: second, side: more[2].toLowerCase() }), want]];
+      return [[ansi.truncate(text, number, { tail: second, side: more[2].toLowerCase() }), want]];
     case 'slice':
-      return [[sliceColumns(text, number, Number(second)), want]];
+      return [[ansi.sliceColumns(text, number, Number(second)), want]];
     case 'expand_tabs':
-      return [[expandTabs(text, number), want]];
+      return [[ansi.expandTabs(text, number), want]];
     case 'wrap':
-      return [[wrap(text, number), more.slice(1)]];
+      return [[ansi.wrap(text, number), more.slice(1)]];
     case 'wrap_with':
-      return [[wrap(text, number, { firstIndent: second, indent: more[2] }), more.slice(3)]];
+      return [[ansi.wrap(text, number, { firstIndent: second, indent: more[2] }), more.slice(3)]];
     case 'lines': {
-      const places = more.slice(1).map((line) => line.split(',').map((position) => inUnits(strip(text), Number(position))));
-      return [[lines(text, number), places], [[...iterLines(text, number)], places]];
+      const places = more.slice(1).map((line) => line.split(',').map((position) => inUnits(ansi.strip(text), Number(position))));
+      return [[ansi.lines(text, number), places], [[...ansi.iterLines(text, number)], places]];
     }
     case 'link_at':
-      return [[linkAt(text, first), found]];
+      return [[ansi.linkAt(text, first), found]];
     case 'sanitize':
     case 'sanitize_bytes':
-      return [[sanitize(text, { show: first === 'Show', links: second === 'Keep' }), want]];
+      return [[ansi.sanitize(text, { show: first === 'Show', links: second === 'Keep' }), want]];
     case 'is_safe':
-      return [[isSafe(text, { links: first === 'Keep' }), found !== null]];
+      return [[ansi.isSafe(text, { links: first === 'Keep' }), found !== null]];
     default:
       throw new Error(`no call of a row: ${call}`);
   }
 }
 
 /** Makes the calls of a row. Returns null, or why it is passed over. Throws if a call returns anything else than the row says. */
-function whyNot([call, status, want, text, ...more]) {
+function whyNot(ansi, [call, status, want, text, ...more]) {
   if (text === undefined || LACKING.includes(call)) {
     return call;
   }
-  const given = more.map((each, index) => (index < (POSITIONS[call] ?? 0) ? inUnits(strip(text), Number(each)) : each));
+  const given = more.map((each, index) => (index < (POSITIONS[call] ?? 0) ? inUnits(ansi.strip(text), Number(each)) : each));
   if (given.includes(null)) {
     return 'a position inside a character';
   }
-  for (const pair of answersOf(call, status === '0' ? want : null, want, text, given)) {
+  for (const pair of answersOf(ansi, call, status === '0' ? want : null, want, text, given)) {
     const [got, wanted] = pair.map((answer) => JSON.stringify(answer));
     if (got !== wanted) {
       throw new Error(`${JSON.stringify([call, text, ...more])}: ${got}, and not ${wanted}`);
@@ -163,12 +159,12 @@ function whyNot([call, status, want, text, ...more]) {
   return null;
 }
 
-/** Makes the calls of each row. Returns how many rows passed, and how many of which calls were passed over. */
-export async function pass() {
+/** Makes the calls of each row, of the package that is given. Returns how many rows passed, and how many of which calls were passed over. */
+export async function pass(ansi) {
   let passed = 0;
   const over = {};
   for (const row of await rows()) {
-    const why = whyNot(row);
+    const why = whyNot(ansi, row);
     if (why === null) {
       passed += 1;
     } else {

@@ -1,6 +1,10 @@
 // Makes the calls of the rows of texts and results, and tests what only JavaScript has.
 import assert from 'node:assert/strict';
-import { readFile } from 'node:fs/promises';
+import { execFileSync } from 'node:child_process';
+import { cp, mkdtemp, readFile, rm, writeFile } from 'node:fs/promises';
+import { createRequire } from 'node:module';
+import { tmpdir } from 'node:os';
+import { fileURLToPath } from 'node:url';
 import { test } from 'node:test';
 import { runInNewContext } from 'node:vm';
 import {
@@ -8,15 +12,50 @@ import {
   pad, sanitize, sliceColumns, split, splitAt, startsWith, strip, stripPrefix, stripSuffix, trim, truncate, width, wrap,
 } from './index.js';
 import * as ansiStr from './index.js';
+import { called, written } from './memory.js';
 import { pass } from './rows.mjs';
 import sliceAnsi from 'ansi_str/compat/slice-ansi';
 import stringWidth from 'ansi_str/compat/string-width';
 import stripAnsi from 'ansi_str/compat/strip-ansi';
 import wrapAnsi from 'ansi_str/compat/wrap-ansi';
 
-test('rows', async () => {
-  const { passed, over } = await pass();
-  console.log(`rows in JavaScript: ${passed} passed; passed over: ${JSON.stringify(over)}`);
+const require = createRequire(import.meta.url);
+const required = require('ansi_str');
+
+for (const [way, given] of [['import', ansiStr], ['require', required]]) {
+  test(`rows by ${way}`, async () => {
+    const { passed, over } = await pass(given);
+    console.log(`rows in JavaScript by ${way}: ${passed} passed; passed over: ${JSON.stringify(over)}`);
+  });
+}
+
+test('`require` has what `import` has', () => {
+  assert.deepEqual(Object.keys(required).sort(), Object.keys(ansiStr).sort());
+  assert.throws(() => required.pad('abc', 2 ** 40), required.OutOfMemoryError);
+  for (const [name, call] of Object.entries({ 'slice-ansi': sliceAnsi, 'string-width': stringWidth, 'strip-ansi': stripAnsi, 'wrap-ansi': wrapAnsi })) {
+    const taken = require(`ansi_str/compat/${name}`);
+    assert.equal(taken.name, call.name);
+    assert.equal(taken.default, taken);
+    assert.equal(taken('\x1b[1mab', 1), call('\x1b[1mab', 1));
+  }
+});
+
+test('a module that cannot be loaded is one error, which says why', async () => {
+  const folder = await mkdtemp(`${tmpdir()}/`);
+  try {
+    for (const name of ['index.js', 'index.cjs', 'calls.js', 'calls.cjs', 'memory.js', 'memory.cjs', 'package.json']) {
+      await cp(fileURLToPath(new URL(name, import.meta.url)), `${folder}/${name}`);
+    }
+    const told = (code) => execFileSync(process.execPath, ['-e', `(async () => ${code})().catch((error) => console.log(error.message))`], { encoding: 'utf8', cwd: folder });
+    for (const code of ["import('./index.js')", "require('./index.cjs')"]) {
+      await rm(`${folder}/ansi_str.wasm`, { force: true });
+      assert.match(told(code), /^ansi_str: ansi_str\.wasm can't be loaded: ENOENT.*\n$/);
+      await writeFile(`${folder}/ansi_str.wasm`, 'no module');
+      assert.match(told(code), /^ansi_str: ansi_str\.wasm can't be loaded: WebAssembly\.Module\(\).*\n$/);
+    }
+  } finally {
+    await rm(folder, { recursive: true });
+  }
 });
 
 test('the version is that of the changelog', async () => {
@@ -181,7 +220,8 @@ test('memory is asked for and given back, and lack of it leaves the module fit f
   };
   try {
     const sanitizeBytes = (text) => sanitize(Buffer.from(text));
-    for (const call of [strip, blocks, (text) => split(text, ' '), (text) => wrap(text, 5), sanitizeBytes]) {
+    for (const call of [strip, blocks, (text) => split(text, ' '), (text) => wrap(text, 5), sanitizeBytes, (text) => [...iterLines(text, 5)],
+      (text) => [...iterSplit(text, ' ')], (text) => [...iterBlocks(text)]]) {
       assert.throws(() => call(long), OutOfMemoryError);
       assert.equal(strip('\x1b[1ma'), 'a');
     }
@@ -196,6 +236,22 @@ test('memory is asked for and given back, and lack of it leaves the module fit f
     assert.equal(pad('abc', 5, 'center'), ' abc ');
     assert.equal(sliceColumns('abc', 1, columns), 'bc');
   }
+});
+
+test('a call may use almost 4 GiB, and no more', () => {
+  const stripIn = (bytes) => called(['\x1b[1ma'], [], () => ({ bytes, entries: 0, entry: 0 }),
+    (exports, frame) => exports.ansi_str_raw_strip(...frame.head, ...frame.texts[0], ...frame.out), written);
+  // (the arena has as many bytes as the room for the result)
+  assert.equal(stripIn(0x7f000000), 'a');
+  assert.throws(() => stripIn(0x80000000), OutOfMemoryError);
+  assert.equal(strip('\x1b[1ma'), 'a');
+});
+
+test('the bytes of a long text are counted', () => {
+  const long = '\x1b[1mé老😀'.repeat(2 ** 21 + 1);
+  assert.ok(long.length > 2 ** 24);
+  assert.equal(strip(long).length, 4 * (2 ** 21 + 1));
+  assert.equal(split(long, '老').length, 2 ** 21 + 2);
 });
 
 test('a drop-in returns what its package does (as run: slice-ansi 5.0.0, strip-ansi 6.0.1, string-width 4.2.3, wrap-ansi 8.0.1)', () => {

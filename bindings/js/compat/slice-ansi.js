@@ -1,5 +1,5 @@
 // In place of the package slice-ansi. README.md says what differs.
-import { sliceColumns } from '../index.js';
+import { sliceColumns } from 'ansi_str';
 
 /** Past the last column of any text. */
 const END = Number.MAX_SAFE_INTEGER;

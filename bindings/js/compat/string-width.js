@@ -1,5 +1,5 @@
 // In place of the package string-width. README.md says what differs.
-import { width } from '../index.js';
+import { width } from 'ansi_str';
 
 export default function stringWidth(string, { ambiguousIsNarrow = true, countAnsiEscapeCodes = false } = {}) {
   if (!ambiguousIsNarrow) {

@@ -1,2 +1,6 @@
 // In place of the package strip-ansi. README.md says what differs.
-export { strip as default } from '../index.js';
+import { strip } from 'ansi_str';
+
+export default function stripAnsi(string) {
+  return strip(string);
+}

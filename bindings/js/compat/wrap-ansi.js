@@ -1,5 +1,5 @@
 // In place of the package wrap-ansi. README.md says what differs.
-import { cut, fitting, hasAny, lines, strip, width, wrap } from '../index.js';
+import { cut, fitting, hasAny, lines, strip, width, wrap } from 'ansi_str';
 
 /** Wider than any text. */
 const ENDLESS = Number.MAX_SAFE_INTEGER;

@@ -21,10 +21,13 @@ if (!existsSync(module)) {
   console.error(`${module} isn't there: run bindings/js/build first`);
   process.exit(1);
 }
-const memory = replaced(textOf('../memory.js'), "new URL('ansi_str.wasm', import.meta.url)",
-  `new URL('data:application/wasm;base64,${readFileSync(module, 'base64')}')`);
-const index = textOf('../index.js').replaceAll("'./memory.js'", "'ansi_str/memory'");
-const imports = { ansi_str: urlOf('text/javascript', index), 'ansi_str/memory': urlOf('text/javascript', memory) };
-const page = replaced(textOf('index.html'), '{"imports": {"ansi_str": "../index.js"}}', JSON.stringify({ imports }));
+const browser = replaced(textOf('../browser.js'), "new URL('ansi_str.wasm', import.meta.url)",
+  `'data:application/wasm;base64,${readFileSync(module, 'base64')}'`);
+// (a module from a `data:` URL imports by names alone)
+const codeOf = (text) => urlOf('text/javascript', text.replace(/'\.\/(calls|memory)\.js'/g, "'ansi_str/$1'"));
+const imports = {
+  ansi_str: codeOf(browser), 'ansi_str/calls': codeOf(textOf('../calls.js')), 'ansi_str/memory': codeOf(textOf('../memory.js')),
+};
+const page = replaced(textOf('index.html'), '{"imports": {"ansi_str": "../browser.js"}}', JSON.stringify({ imports }));
 const script = `<script type="module">\n${textOf('demo.js')}</script>`;
 writeFileSync(process.argv[2] ?? pathOf('ansi_str.html'), replaced(page, '<script type="module" src="demo.js"></script>', script));

@@ -350,8 +350,5 @@ try {
   start();
   element('message').remove();
 } catch (error) {
-  // (an empty module with a memory of 64 bits)
-  const hasMemory = WebAssembly.validate(new Uint8Array([0, 97, 115, 109, 1, 0, 0, 0, 5, 3, 1, 4, 0]));
-  element('message').textContent = hasMemory ? `The page can't run: ${error.message}`
-    : 'The page needs WebAssembly with 64-bit memory, which Chrome has from 133 on and Firefox from 134 on.';
+  element('message').textContent = `The page can't run: ${error.message}`;
 }

@@ -1,0 +1,414 @@
+// Text with ANSI control sequences, taken as if the sequences weren't there. index.d.ts says what each call does.
+import {
+  END as BYTES_OF_END, LINE, blocks as blocksOf, bytesOf, called, iterLines as linesOf, listed, noRoom, roomForColumns, roomForEntries, roomForList,
+  roomForOne, told, written,
+} from './memory.js';
+
+export { OutOfMemoryError } from './memory.js';
+
+const ALIGNMENTS = ['left', 'center', 'right'];
+const SIDES = ['end', 'start', 'middle'];
+const KINDS = { cut: 0, left: 1, right: 2, part: 3, prefix: 4, suffix: 5, trim: 6 };
+/** The largest number that is passed on: past the end of any text. */
+const END = Number.MAX_SAFE_INTEGER;
+
+/** Whether an export that takes a text and a pattern returns that it is so. */
+function isSo(name, text, pattern) {
+  return called([text, pattern], [], noRoom,
+    (exports, frame) => exports[name](frame.head[0], ...frame.texts[0], ...frame.texts[1]), told) !== null;
+}
+
+/** The exports of the module: what each takes, the room for its result, and what is read of it. Positions are bytes. */
+const raw = {
+  strip(text) {
+    return called([text], [], roomForOne, (exports, frame) => exports.ansi_str_raw_strip(...frame.head, ...frame.texts[0], ...frame.out), written);
+  },
+
+  /** The first match in bytes of the plain text, or null. */
+  find(text, pattern) {
+    return called([text, pattern], [], noRoom, (exports, frame) => exports.ansi_str_raw_find(frame.head[0], ...frame.texts[0], ...frame.texts[1]), told);
+  },
+
+  startsWith: (text, pattern) => isSo('ansi_str_raw_starts_with', text, pattern),
+
+  endsWith: (text, pattern) => isSo('ansi_str_raw_ends_with', text, pattern),
+
+  isWhole(text) {
+    return called([text], [], noRoom, (exports, frame) => exports.ansi_str_raw_is_whole(frame.head[0], ...frame.texts[0]), told) !== null;
+  },
+
+  /** The text after all steps, or null if one is refused. */
+  edit(text, steps) {
+    const texts = [text, ...steps.map((step) => step.pattern)];
+    return called(texts, steps, roomForOne,
+      (exports, frame) => exports.ansi_str_raw_edit(...frame.head, ...frame.texts[0], BigInt(frame.steps), BigInt(steps.length), ...frame.out), written);
+  },
+
+  split(text, pattern) {
+    return called([text, pattern], [], roomForList(text, BYTES_OF_END),
+      (exports, frame) => exports.ansi_str_raw_split(...frame.head, ...frame.texts[0], ...frame.texts[1], ...frame.out, ...frame.list), listed);
+  },
+
+  /** The display width of the plain text, in columns. */
+  width(text) {
+    return called([text], [], noRoom, (exports, frame) => exports.ansi_str_raw_width(frame.head[0], ...frame.texts[0]), told);
+  },
+
+  /** The position, in bytes of the plain text, up to which it fits. */
+  fitting(text, width) {
+    return called([text], [], noRoom, (exports, frame) => exports.ansi_str_raw_fitting(frame.head[0], ...frame.texts[0], BigInt(width)), told);
+  },
+
+  /** The columns before a position in bytes of the plain text, or null if it is inside a character. */
+  columnOf(text, position) {
+    return called([text], [], noRoom, (exports, frame) => exports.ansi_str_raw_column_of(frame.head[0], ...frame.texts[0], BigInt(position)), told);
+  },
+
+  truncate(text, width, tail, side) {
+    return called([text, tail], [], roomForOne,
+      (exports, frame) => exports.ansi_str_raw_truncate_with(...frame.head, ...frame.texts[0], BigInt(width), ...frame.texts[1], side, ...frame.out), written);
+  },
+
+  fit(text, width, alignment, tail) {
+    return called([text, tail], [], roomForColumns(width),
+      (exports, frame) => exports.ansi_str_raw_fit(...frame.head, ...frame.texts[0], BigInt(width), alignment, ...frame.texts[1], ...frame.out), written);
+  },
+
+  pad(text, width, alignment) {
+    return called([text], [], roomForColumns(width),
+      (exports, frame) => exports.ansi_str_raw_pad(...frame.head, ...frame.texts[0], BigInt(width), alignment, ...frame.out), written);
+  },
+
+  sliceColumns(text, start, end) {
+    return called([text], [], roomForOne,
+      (exports, frame) => exports.ansi_str_raw_slice(...frame.head, ...frame.texts[0], BigInt(start), BigInt(end), ...frame.out), written);
+  },
+
+  expandTabs(text, stop) {
+    return called([text], [], roomForOne,
+      (exports, frame) => exports.ansi_str_raw_expand_tabs(...frame.head, ...frame.texts[0], BigInt(stop), ...frame.out), written);
+  },
+
+  wrap(text, width) {
+    return called([text], [], roomForList(text, BYTES_OF_END),
+      (exports, frame) => exports.ansi_str_raw_wrap(...frame.head, ...frame.texts[0], BigInt(width), ...frame.out, ...frame.list), listed);
+  },
+
+  wrapWith(text, width, first, later) {
+    return called([text, first, later], [], roomForList(text, BYTES_OF_END), (exports, frame) => exports.ansi_str_raw_wrap_with(
+      ...frame.head, ...frame.texts[0], BigInt(width), ...frame.texts[1], ...frame.texts[2], ...frame.out, ...frame.list,
+    ), listed);
+  },
+
+  /** Where each line begins and ends, in bytes of the plain text: the beginning and the end of the first, then those of the next. */
+  lines(text, width) {
+    return called([text], [], roomForEntries(text, LINE),
+      (exports, frame) => exports.ansi_str_raw_lines(frame.head[0], ...frame.texts[0], BigInt(width), ...frame.list),
+      (frame) => Array.from({ length: 2 * told(frame) }, (_, index) => frame.word(frame.entries + index * 8)));
+  },
+
+  /** The address of the link at a position in bytes of the plain text, or null. */
+  linkAt(text, position) {
+    return called([text], [], roomForOne,
+      (exports, frame) => exports.ansi_str_raw_link_at(frame.head[0], ...frame.texts[0], BigInt(position), ...frame.out), written);
+  },
+
+  sanitize(text, rest, links) {
+    return called([text], [], roomForOne,
+      (exports, frame) => exports.ansi_str_raw_sanitize(...frame.head, ...frame.texts[0], rest, links, ...frame.out), written);
+  },
+
+  sanitizeBytes(bytes, rest, links) {
+    return called([bytes], [], roomForOne,
+      (exports, frame) => exports.ansi_str_raw_sanitize_bytes(...frame.head, ...frame.texts[0], rest, links, ...frame.out), written);
+  },
+
+  isSafe(text, links) {
+    return called([text], [], noRoom, (exports, frame) => exports.ansi_str_raw_is_safe(frame.head[0], ...frame.texts[0], links), told) !== null;
+  },
+};
+
+// (Node 18 has no such method)
+const isWellFormed = String.prototype.isWellFormed ? (text) => text.isWellFormed() : (text) => !/\p{Surrogate}/u.test(text);
+
+function textOf(name, value) {
+  if (typeof value !== 'string') {
+    throw new TypeError(`the ${name} must be a string`);
+  }
+  if (!isWellFormed(value)) {
+    throw new TypeError(`the ${name} has a lone surrogate`);
+  }
+  return value;
+}
+
+function numberOf(name, value) {
+  if (!Number.isInteger(value)) {
+    throw new TypeError(`the ${name} must be a whole number`);
+  }
+  if (value < 0) {
+    throw new RangeError(`the ${name} is below 0: ${value}`);
+  }
+  return Math.min(value, END);
+}
+
+// (an ASCII character is one byte and one unit, so its position in units is its position in bytes)
+const isAscii = (text) => /^[\0-\x7f]*$/.test(text);
+
+/** Converts a position in units of the plain text to bytes. A position between two surrogates becomes one inside their character. */
+function placeOf(plain, position) {
+  if (position >= plain.length) {
+    return bytesOf(plain);
+  }
+  const before = plain.slice(0, position);
+  return isWellFormed(before) ? bytesOf(before) : bytesOf(before.slice(0, -1)) + 2;
+}
+
+/** A function that converts positions in bytes of the plain text, which ascend, to units. */
+function unitsIn(plain) {
+  let [bytes, units] = [0, 0];
+  return (position) => {
+    while (bytes < position) {
+      const character = String.fromCodePoint(plain.codePointAt(units));
+      bytes += bytesOf(character);
+      units += character.length;
+    }
+    return units;
+  };
+}
+
+/** What a cut has as a step. */
+function cutOf(start, end) {
+  const first = numberOf('start', start);
+  if (end === undefined) {
+    return { first, second: END, places: ['first'] };
+  }
+  const second = numberOf('end', end);
+  // (large positions become one, and so do those past the end; an end below its start has to stay below it)
+  return start <= end ? { first, second, places: ['first', 'second'] } : { first: 1, second: 0, places: [] };
+}
+
+/** The edit as a step of the library: its kind, its numbers, which of them are positions (`places`), and its pattern. */
+function stepOf(edit) {
+  const [name, ...more] = Array.isArray(edit) ? edit : [];
+  if (typeof name !== 'string' || !Object.hasOwn(KINDS, name)) {
+    throw new TypeError('an edit must be an array that begins with the name of an edit');
+  }
+  const step = { kind: KINDS[name], first: 0, second: 0, places: [], pattern: '' };
+  if (name === 'cut') {
+    Object.assign(step, cutOf(more[0], more[1]));
+  } else if (name === 'left' || name === 'right') {
+    step.first = numberOf('index', more[0]);
+    step.places = ['first'];
+  } else if (name === 'part') {
+    step.pattern = textOf('pattern', more[0]);
+    step.first = numberOf('index', more[1]);
+  } else if (name !== 'trim') {
+    step.pattern = textOf('pattern', more[0]);
+  }
+  return step;
+}
+
+export function edit(text, edits) {
+  textOf('text', text);
+  const steps = [...edits].map(stepOf);
+  if (isAscii(text)) {
+    return raw.edit(text, steps);
+  }
+  // positions of a step count units of the result of the steps before it
+  let given = text;
+  for (const step of steps) {
+    const placed = { ...step };
+    if (step.places.length > 0) {
+      const plain = raw.strip(given);
+      for (const place of step.places) {
+        placed[place] = placeOf(plain, step[place]);
+      }
+    }
+    given = raw.edit(given, [placed]);
+    if (given === null) {
+      return null;
+    }
+  }
+  return given;
+}
+
+/** Why an edit with these positions is refused. */
+function refusal(plain, start, end) {
+  if (end < start) {
+    return `the end, ${end}, is before the start, ${start}`;
+  }
+  const inside = [start, end].find((position) => !isWellFormed(plain.slice(0, position)));
+  return `the position ${inside} is inside a character`;
+}
+
+/** An edit that is refused only for its positions. */
+function placed(text, step, ...positions) {
+  const given = edit(text, [step]);
+  if (given === null) {
+    throw new RangeError(refusal(strip(text), ...positions));
+  }
+  return given;
+}
+
+export function strip(text) {
+  return textOf('text', text).includes('\x1b') ? raw.strip(text) : text;
+}
+
+export function cut(text, start, end) {
+  return placed(text, ['cut', start, end], start, end);
+}
+
+export function splitAt(text, index) {
+  return [placed(text, ['left', index], index), placed(text, ['right', index], index)];
+}
+
+export function trim(text) {
+  return placed(text, ['trim']);
+}
+
+export function stripPrefix(text, pattern) {
+  return edit(text, [['prefix', pattern]]);
+}
+
+export function stripSuffix(text, pattern) {
+  return edit(text, [['suffix', pattern]]);
+}
+
+export function startsWith(text, pattern) {
+  return raw.startsWith(textOf('text', text), textOf('pattern', pattern));
+}
+
+export function endsWith(text, pattern) {
+  return raw.endsWith(textOf('text', text), textOf('pattern', pattern));
+}
+
+export function hasAny(text) {
+  return textOf('text', text).includes('\x1b');
+}
+
+export function isWhole(text) {
+  return raw.isWhole(textOf('text', text));
+}
+
+export function floorCharBoundary(text, index) {
+  const plain = strip(text);
+  const position = Math.min(numberOf('index', index), plain.length);
+  return isWellFormed(plain.slice(0, position)) ? position : position - 1;
+}
+
+export function find(text, pattern) {
+  textOf('text', text);
+  textOf('pattern', pattern);
+  if (!isAscii(text)) {
+    return raw.strip(text).indexOf(pattern);
+  }
+  return raw.find(text, pattern) ?? -1;
+}
+
+export function split(text, pattern) {
+  return raw.split(textOf('text', text), textOf('pattern', pattern));
+}
+
+export function iterSplit(text, pattern) {
+  return split(text, pattern).values();
+}
+
+export function iterBlocks(text) {
+  return blocks(text).values();
+}
+
+export function blocks(text) {
+  return blocksOf(textOf('text', text));
+}
+
+export function width(text) {
+  return raw.width(textOf('text', text));
+}
+
+export function fitting(text, width) {
+  const position = raw.fitting(textOf('text', text), numberOf('width', width));
+  return isAscii(text) ? position : unitsIn(raw.strip(text))(position);
+}
+
+export function columnOf(text, position) {
+  textOf('text', text);
+  const place = numberOf('position', position);
+  const column = raw.columnOf(text, isAscii(text) ? place : placeOf(raw.strip(text), place));
+  if (column === null) {
+    throw new RangeError(`the position ${place} is inside a character`);
+  }
+  return column;
+}
+
+/** The number of one of these words. */
+function indexOf(name, word, words) {
+  if (!words.includes(word)) {
+    throw new TypeError(`the ${name} must be one of ${words.join(', ')}`);
+  }
+  return words.indexOf(word);
+}
+
+export function truncate(text, width, options = '') {
+  const { tail = '', side = 'end' } = typeof options === 'object' && options !== null ? options : { tail: options };
+  return raw.truncate(textOf('text', text), numberOf('width', width), textOf('tail', tail), indexOf('side', side, SIDES));
+}
+
+export function pad(text, width, alignment = 'left') {
+  const place = indexOf('alignment', alignment, ALIGNMENTS);
+  return raw.pad(textOf('text', text), numberOf('width', width), place);
+}
+
+export function fit(text, width, alignment = 'left', tail = '') {
+  const place = indexOf('alignment', alignment, ALIGNMENTS);
+  return raw.fit(textOf('text', text), numberOf('width', width), place, textOf('tail', tail));
+}
+
+export function sliceColumns(text, start = 0, end = END) {
+  return raw.sliceColumns(textOf('text', text), numberOf('start', start), numberOf('end', end));
+}
+
+export function expandTabs(text, stop = 8) {
+  return raw.expandTabs(textOf('text', text), numberOf('stop', stop));
+}
+
+export function wrap(text, width, { firstIndent = '', indent = '' } = {}) {
+  textOf('text', text);
+  const most = numberOf('width', width);
+  const [first, later] = [textOf('first indent', firstIndent), textOf('indent', indent)];
+  return first + later === '' ? raw.wrap(text, most) : raw.wrapWith(text, most, first, later);
+}
+
+export function lines(text, width) {
+  const places = raw.lines(textOf('text', text), numberOf('width', width));
+  const positions = isAscii(text) ? places : places.map(unitsIn(raw.strip(text)));
+  return Array.from({ length: positions.length / 2 }, (_, index) => [positions[2 * index], positions[2 * index + 1]]);
+}
+
+function* inUnits(lines, unitsOf) {
+  for (const [start, end] of lines) {
+    yield [unitsOf(start), unitsOf(end)];
+  }
+}
+
+export function iterLines(text, width) {
+  const places = linesOf(textOf('text', text), numberOf('width', width));
+  return isAscii(text) ? places : inUnits(places, unitsIn(raw.strip(text)));
+}
+
+export function linkAt(text, position) {
+  textOf('text', text);
+  const place = numberOf('position', position);
+  return raw.linkAt(text, isAscii(text) ? place : placeOf(raw.strip(text), place));
+}
+
+// (an array of another realm is no instance of this one's class)
+const isBytes = (value) => ArrayBuffer.isView(value) && value[Symbol.toStringTag] === 'Uint8Array';
+
+export function sanitize(text, { show = false, links = false } = {}) {
+  const policy = [show ? 1 : 0, links ? 1 : 0];
+  return isBytes(text) ? raw.sanitizeBytes(text, ...policy) : raw.sanitize(textOf('text', text), ...policy);
+}
+
+export function isSafe(text, { links = false } = {}) {
+  return raw.isSafe(textOf('text', text), links ? 1 : 0);
+}
