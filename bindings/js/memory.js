@@ -65,7 +65,8 @@ export function bytesOf(text) {
   return bytes;
 }
 
-/** At least as many bytes as a text has. Those of a long one are counted, since the memory has at most 4 GiB. */
+/** At least as many bytes as a text has, or as the text of bytes, each of which may become U+FFFD. Those of a long text are counted,
+ * since the memory has at most 4 GiB. */
 const mostBytesOf = (text) => (text.length < LONG || typeof text !== 'string' ? 3 * text.length : bytesOf(text));
 
 const padded = (size, unit = UNIT) => Math.ceil(size / unit) * unit;
