@@ -1,0 +1,148 @@
+/* Checks what heap.c and program.c promise, of these files or of the kit's objects; its arguments are any. Exits with 1 if something differs.
+ * malloc and realloc are wrapped, to refuse requests and to see their lengths. */
+#include <errno.h>
+#include <stddef.h>
+#include <stdint.h>
+#include <stdio.h>
+#include <stdlib.h>
+#include <string.h>
+#include <unistd.h>
+
+struct tried {
+    size_t ok;
+    unsigned char *block;
+};
+
+struct tried rattle_alloc(size_t, size_t);
+struct tried rattle_realloc(void *, size_t, size_t, size_t);
+void rattle_dealloc(void *);
+size_t rattle_arg_count(void);
+ptrdiff_t rattle_arg(size_t, unsigned char *, size_t);
+int rattle_errno(void);
+void rattle_set_errno(int);
+
+static int refuses = 0;
+static size_t requested = 0;
+static long passed = 0;
+
+void *__real_malloc(size_t);
+void *__real_realloc(void *, size_t);
+
+void *__wrap_malloc(size_t len) {
+    requested = len;
+    return refuses ? NULL : __real_malloc(len);
+}
+
+void *__wrap_realloc(void *block, size_t len) {
+    requested = len;
+    return refuses ? NULL : __real_realloc(block, len);
+}
+
+static void expect(const char *what, int is_so) {
+    if (!is_so) {
+        fprintf(stderr, "system: %s\n", what);
+        exit(1);
+    }
+    passed++;
+}
+
+static int is_filled(const unsigned char *bytes, size_t len, unsigned char byte) {
+    while (len > 0 && bytes[len - 1] == byte) len--;
+    return len == 0;
+}
+
+/* a block that was granted, for this request */
+static unsigned char *granted(struct tried tried, size_t len, size_t alignment) {
+    expect("a request is granted", tried.ok == 1 && tried.block != NULL);
+    expect("a block is aligned", (uintptr_t)tried.block % alignment == 0);
+    expect("a request has its length", requested == (len ? len : alignment));
+    return tried.block;
+}
+
+static void is_refused(struct tried tried) { expect("a request is refused", tried.ok == 0 && tried.block != NULL); }
+
+static void expect_heap(size_t len, size_t next, size_t alignment) {
+    size_t kept = len < next ? len : next;
+    unsigned char *block = granted(rattle_alloc(len, alignment), len, alignment);
+    unsigned char *other = granted(rattle_alloc(len, alignment), len, alignment);
+    expect("each block has an address of its own", block != other);
+    memset(block, 0xa5, len);
+    memset(other, 0x5a, len);
+    refuses = 1;
+    is_refused(rattle_alloc(len, alignment));
+    is_refused(rattle_realloc(block, kept, next, alignment));
+    refuses = 0;
+    expect("a block stays if it is refused another length", is_filled(block, len, 0xa5));
+    block = granted(rattle_realloc(block, kept, next, alignment), next, alignment);
+    expect("the bytes to keep are kept", is_filled(block, kept, 0xa5));
+    memset(block, 0xa5, next);
+    expect("blocks are apart", is_filled(other, len, 0x5a));
+    rattle_dealloc(block);
+    rattle_dealloc(other);
+}
+
+static void expect_argument(size_t index, const char *word) {
+    size_t len = strlen(word);
+    for (size_t room = 0; room <= len + 2; room++) {
+        unsigned char *buffer = malloc(room + 1);
+        size_t written = len < room ? len : room;
+        memset(buffer, 0xa5, room + 1);
+        expect("an argument's length", rattle_arg(index, buffer, room) == (len <= room ? (ptrdiff_t)len : -2));
+        expect("an argument's bytes", memcmp(buffer, word, written) == 0);
+        expect("nothing more is written", is_filled(buffer + written, room + 1 - written, 0xa5));
+        free(buffer);
+    }
+}
+
+static void expect_arguments(size_t count, char **words) {
+    unsigned char byte = 0xa5;
+    expect("how many arguments there are", rattle_arg_count() == count);
+    for (size_t i = 0; i < count; i++) expect_argument(i, words[i]);
+    expect("there is no such argument", rattle_arg(count, &byte, 1) == -1 && rattle_arg(SIZE_MAX, &byte, 1) == -1 && byte == 0xa5);
+}
+
+static void expect_errno(void) {
+    errno = ERANGE;
+    expect("the number of the last error", rattle_errno() == ERANGE);
+    rattle_set_errno(EILSEQ);
+    expect("a new number", errno == EILSEQ && rattle_errno() == EILSEQ);
+    expect("that of a call", close(-1) == -1 && rattle_errno() == EBADF);
+}
+
+#ifdef __x86_64__
+struct cpuid_feature {
+    unsigned cpuid[4], active[4];
+};
+
+const struct cpuid_feature *__x86_get_cpuid_feature_leaf(unsigned);
+ssize_t __write(int, const void *, size_t);
+
+static void expect_processor(void) {
+    static const char CPUID[] = "a feature of the processor";
+    unsigned active = __x86_get_cpuid_feature_leaf(0)->active[2];
+    expect(CPUID, !(active & 1u << 0) == !__builtin_cpu_supports("sse3"));
+    expect(CPUID, !(active & 1u << 9) == !__builtin_cpu_supports("ssse3"));
+    expect(CPUID, !(active & 1u << 19) == !__builtin_cpu_supports("sse4.1"));
+    expect(CPUID, !(active & 1u << 20) == !__builtin_cpu_supports("sse4.2"));
+    expect(CPUID, !(active & 1u << 23) == !__builtin_cpu_supports("popcnt"));
+    int pipes[2];
+    char bytes[4] = "";
+    expect("a pipe", pipe(pipes) == 0);
+    expect("it is written", __write(pipes[1], "abc", 3) == 3 && read(pipes[0], bytes, 4) == 3 && strcmp(bytes, "abc") == 0);
+    expect("an error", __write(-1, "abc", 3) == -1 && errno == EBADF);
+}
+#else
+static void expect_processor(void) {}
+#endif
+
+int main(int count, char **words) {
+    static const size_t LENS[] = {0, 1, 2, 15, 16, 17, 255, 4096, 100000, 1 << 20};
+    enum { COUNT = sizeof LENS / sizeof LENS[0] };
+    for (size_t i = 0; i < COUNT * COUNT; i++)
+        for (size_t alignment = 1; alignment <= 16; alignment *= 2) expect_heap(LENS[i / COUNT], LENS[i % COUNT], alignment);
+    expect_arguments((size_t)count, words);
+    expect_errno();
+    expect_processor();
+    printf("system: %ld are as they should be\n", passed);
+    return 0;
+}
