@@ -24,7 +24,7 @@ use Rattle.ansi_columns.specs.Columns.{columns as columns_in}
 use Rattle.ansi_columns.specs.Views.{seen, seen_text}
 use Rattle.ansi_columns.specs.declared.walks.Walk.{Walk}
 use Rattle.ansi_columns.specs.BreakStates.{break_state_of}
-use Rattle.ansi_columns.specs.Walks.{clusters_after, IsWalkIn, IsCountedTo, IsAfterPrintable, walk_at_run}
+use Rattle.ansi_columns.specs.Walks.{clusters_after, IsWalkIn, IsCounted, IsCountedTo, EndsAscii, walk_at_run}
 use Rattle.ansi_columns.proofs.FrontRunLemmas.{counted-walk, run-walk}
 use Rattle.ansi_columns.proofs.AsciiLemmas.{is_printable, All-printable_is_ascii, columns-printable}
 use Rattle.ansi_safe.proofs.FrontLemmas.{prefix_len-take}
@@ -84,25 +84,37 @@ printable-columns {t} {columns} {passed} view utf8 so_far none =
     = seen-chars view t utf8 ∙ ap (λ u. seen view (chars u)) front ∙ ap (seen view) ascii ∙ seen-all_printable view x here.printable ∙ sym ascii in
     sym here.count ∙ sym (ap (λ cs. columns_of (clusters_after [] cs)) seen_is ∙ columns-printable x here.printable)
 
--- at a run
-pub after-printable : {t : List ℕ} {columns : ℕ} {old new : Scan} {item : Item} (v : Walk) → IsUtf8 t → ArePrintableSoFar t columns old.offset (pieces_left old) → GivesItem old item new → old.text ≡ t → item.kind ≡ TextKind → v ≡ walk_at_run columns item.start item.end
-    → IsAfterPrintable t columns v
-after-printable {t} {columns} {new = new} {item} v utf8 so_far gives same kind is =
-    let over = over_text gives same refl kind in
-    let w = slice_range t item.start item.end in
-    let ps = pieces_left new in
-    let x = plain_of so_far.front in
-    let end : IsCharBoundary t new.offset = subst (IsCharBoundary t) gives.end (subst (λ u. IsCharBoundary u item.end) same gives.end_boundary) in
-    let pieces : pieces_of t ≡ so_far.front ++ Text w ∷ ps = so_far.all ∙ ap (λ qs. so_far.front ++ qs) over.first in
-    let text : plain t ≡ x ++ (w ++ plain_of ps) = ap plain_of pieces ∙ flat_map-append plain_bytes so_far.front (Text w ∷ ps) in
-    let place : v.position ≡ length x = ap (λ (u : Walk). u.position) is ∙ sym so_far.count in
-    let walk : (view : View) → IsWalkIn view t v
-    = λ view. run-walk view so_far.front v utf8 pieces so_far.printable so_far.bytes over end (omega (arith, over.count, gives.start, gives.end, gives.forward)) place (ap (λ (u : Walk). u.offset) is ∙ gives.start) (ap (λ (u : Walk). u.run_end) is ∙ gives.end)
-    (ap (λ (u : Walk). u.break_state) is) in
-    record {
-      is_walk = walk;
-      counted = λ view ends. subst (IsCountedTo view t v.position) so_far.count (counted-walk view t utf8 x (w ++ plain_of ps) text so_far.printable v place (walk view) ends);
-    }
+-- the walk at a run, and the columns before it
+module _ {t : List ℕ} {columns : ℕ} {old new : Scan} {item : Item} (v : Walk) (utf8 : IsUtf8 t) (so_far : ArePrintableSoFar t columns old.offset (pieces_left old)) (gives : GivesItem old item new) (same : old.text ≡ t) (kind : item.kind ≡ TextKind) (is : v ≡ walk_at_run columns item.start item.end) where
+  over : IsOverText t (slice_range t item.start item.end) old.offset new.offset (pieces_left old) (pieces_left new)
+  over = over_text gives same refl kind
+
+  runs : List ℕ
+  runs = plain_of so_far.front
+
+  pieces : pieces_of t ≡ so_far.front ++ Text (slice_range t item.start item.end) ∷ pieces_left new
+  pieces = so_far.all ∙ ap (λ qs. so_far.front ++ qs) over.first
+
+  place : v.position ≡ length runs
+  unfolding runs
+  place = ap (λ (u : Walk). u.position) is ∙ sym so_far.count
+
+  pub walk-printable : (view : View) → IsWalkIn view t v
+  unfolding runs
+  walk-printable view =
+      let end : IsCharBoundary t new.offset = subst (IsCharBoundary t) gives.end (subst (λ u. IsCharBoundary u item.end) same gives.end_boundary) in
+      run-walk view so_far.front v utf8 pieces so_far.printable so_far.bytes over end (omega (arith, over.count, gives.start, gives.end, gives.forward)) place (ap (λ (u : Walk). u.offset) is ∙ gives.start) (ap (λ (u : Walk). u.run_end) is ∙ gives.end)
+      (ap (λ (u : Walk). u.break_state) is)
+
+  pub counted-printable : EndsAscii t v → IsCounted t columns v
+  unfolding runs
+  counted-printable ends =
+      let rest = slice_range t item.start item.end ++ plain_of (pieces_left new) in
+      let text : plain t ≡ runs ++ rest = ap plain_of pieces ∙ flat_map-append plain_bytes so_far.front (Text (slice_range t item.start item.end) ∷ pieces_left new) in
+      record {
+        is_walk = walk-printable;
+        counted = λ view. subst (IsCountedTo view t v.position) so_far.count (counted-walk view t utf8 runs rest text so_far.printable v place (walk-printable view) ends);
+      }
 
 -- ---- the test of a run
 

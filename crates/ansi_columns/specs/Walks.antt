@@ -182,10 +182,10 @@ pub record IsCountedTo (view : View) (t : List ℕ) (n total : ℕ) : Type 0 whe
   pub all : total + columns_of (seen_clusters view t n) ≡ columns (seen_text view t)
   pub bound : total ≤ 2 * n
 
--- A walk at a run before which there is only printable ASCII, with this number of columns.
-pub record IsAfterPrintable (t : List ℕ) (columns : ℕ) (walk : Walk) : Type 0 where
+-- A walk before which there is this number of columns, whatever is seen.
+pub record IsCounted (t : List ℕ) (columns : ℕ) (walk : Walk) : Type 0 where
   pub is_walk : (view : View) → IsWalkIn view t walk
-  pub counted : (view : View) → EndsAscii t walk → IsCountedTo view t walk.position columns
+  pub counted : (view : View) → IsCountedTo view t walk.position columns
 
 -- The clusters up to a position fit, and leave this number of columns.
 pub record IsFittingTo (view : View) (t : List ℕ) (width n left : ℕ) : Type 0 where

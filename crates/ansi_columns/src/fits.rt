@@ -55,6 +55,7 @@ pub(crate) fn fitting_front(text: &str, width: usize, view: View) -> Front
 }
 
 /// The same, after a prefix that fits.
+#[inline(always)]
 pub(crate) fn fitting_front_from(text: &str, width: usize, view: View, from: Fitted) -> Front
     requires { IsFitted view text.now width from }
     ensures walk { IsWalkIn view text.now result.walk }

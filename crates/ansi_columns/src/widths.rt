@@ -3,7 +3,7 @@ ghost use Rattle.std.specs.Prelude.{◌≡◌, MatchOption};
 ghost use Rattle.ansi_columns.specs.declared.views.View.{View};
 ghost use Rattle.ansi_columns.specs.Columns.{columns};
 ghost use Rattle.ansi_columns.specs.Views.{seen_text};
-ghost use Rattle.ansi_columns.specs.Walks.{IsWalkIn, IsCountedTo, IsAfterPrintable};
+ghost use Rattle.ansi_columns.specs.Walks.{IsWalkIn, IsCounted, IsCountedTo};
 
 use crate::plain_cells::{LONGEST, is_printable};
 use crate::views::View;
@@ -14,21 +14,18 @@ use ansi_items::ansitok::{Kind, Scanner};
 pub(crate) fn width(text: &str, view: View) -> usize
     ensures { result ≡ columns (seen_text view text.now) }
 {
-    let (columns, next) = printable_runs(text);
-    let Some(next) = next else {
-        return columns;
-    };
-    if next.ends_ascii(text) {
-        return walked_width(text, view, next, columns);
+    match printable_runs(text) {
+        (columns, None) => columns,
+        (columns, Some(next)) => walked_width(text, view, next, columns),
     }
-    walked_width(text, view, Walk::start(text), 0)
 }
 
 /// The columns of the runs of a text that are printable ASCII, up to another one, and the walk at that
-/// one. A long text isn't looked at.
+/// one. If that may join the character before it, they are none, and the walk is at the beginning. A
+/// long text isn't looked at.
 fn printable_runs(text: &str) -> (usize, Option<Walk>)
     ensures { MatchOption result.1 ((view : View) → result.0 ≡ columns (seen_text view text.now))
-        (IsAfterPrintable text.now result.0) }
+        (IsCounted text.now result.0) }
 {
     if LONGEST < text.len() {
         return (0, Some(Walk::start(text)));
@@ -39,7 +36,11 @@ fn printable_runs(text: &str) -> (usize, Option<Walk>)
             continue;
         }
         if !is_printable(text, item.start, item.end) {
-            return (columns, Some(Walk::at_run(&item, columns)));
+            let next = Walk::at_run(&item, columns);
+            if next.ends_ascii(text) {
+                return (columns, Some(next));
+            }
+            return (0, Some(Walk::start(text)));
         }
         columns += item.end - item.start;
     }

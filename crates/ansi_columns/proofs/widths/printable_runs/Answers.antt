@@ -7,9 +7,10 @@ use Rattle.ansi_items.specs.Scans.{pieces_left}
 use Rattle.ansi_items.proofs.StepLemmas.{kind_is_text}
 use Rattle.ansi_search.proofs.OffsetLemmas.{item_range, over_text, over_mark}
 use Rattle.ansi_search.proofs.SliceLemmas.{length-slice_range}
+use Rattle.ansi_columns.specs.declared.views.View.TheVariants.{Given}
 use Rattle.ansi_columns.specs.Walks.{IsCountedTo}
 use Rattle.ansi_columns.proofs.ColumnLemmas.{counted-begin}
-use Rattle.ansi_columns.proofs.PrintableTextLemmas.{ArePrintableSoFar, printable-begin, printable-run, printable-mark, printable-within, printable-columns, after-printable}
+use Rattle.ansi_columns.proofs.PrintableTextLemmas.{ArePrintableSoFar, printable-begin, printable-run, printable-mark, printable-within, printable-columns, walk-printable, counted-printable}
 use Rattle.ansi_columns.proofs.widths.printable_runs.Goals as goal
 
 pub loop-item-init : goal.loop-item-init
@@ -34,7 +35,7 @@ overflow_add-columns c =
 pub returns-then-text-gt-LONGEST : goal.returns-then-text-gt-LONGEST
 returns-then-text-gt-LONGEST c =
     let t = c.args.text.now in
-    record { is_walk = c.start.ensures.seen; counted = λ view _. subst (λ n. IsCountedTo view t n 0) (sym c.start.ensures.position) (counted-begin view t c.utf8.text) }
+    record { is_walk = c.start.ensures.seen; counted = λ view. subst (λ n. IsCountedTo view t n 0) (sym c.start.ensures.position) (counted-begin view t c.utf8.text) }
 
 -- over a sequence or a lone escape
 pub loop-item-preserved-then-ne : goal.loop-item-preserved-then-ne
@@ -58,10 +59,21 @@ loop-item-preserved c =
     }
 
 -- at another run
+
+pub ends_ascii-requires : goal.ends_ascii-requires
+ends_ascii-requires c =
+    let inv = c.loop-item.invariant in
+    (Given, walk-printable _ c.utf8.text inv.so_far c.in-Some.ensures.steps inv.text (kind_is_text (sym (not-false _ (sym c.if-ne.ensures)))) c.at_run-next.ensures Given)
+
+pub returns-then-ends_ascii : goal.returns-then-ends_ascii
+returns-then-ends_ascii c =
+    let inv = c.loop-item.invariant in
+    counted-printable _ c.utf8.text inv.so_far c.in-Some.ensures.steps inv.text (kind_is_text (sym (not-false _ (sym c.if-ne.ensures)))) c.at_run-next.ensures (c.ends_ascii.ensures c.if-ends_ascii.true)
+
 pub returns-then-not-is_printable : goal.returns-then-not-is_printable
 returns-then-not-is_printable c =
-    let inv = c.loop-item.invariant in
-    after-printable _ c.utf8.text inv.so_far c.in-Some.ensures.steps inv.text (kind_is_text (sym (not-false _ (sym c.if-ne.ensures)))) c.at_run.ensures
+    let t = c.args.text.now in
+    record { is_walk = c.start-then-not-is_printable.ensures.seen; counted = λ view. subst (λ n. IsCountedTo view t n 0) (sym c.start-then-not-is_printable.ensures.position) (counted-begin view t c.utf8.text) }
 
 pub returns : goal.returns
 returns c view = printable-columns view c.utf8.text c.loop-item.invariant.so_far c.in-None.ensures.steps.2
