@@ -45,7 +45,7 @@ fn a_closed_output_is_no_fault(rt: HostRuntime) -> Result<(), AllocError> {
     Ok(())
 }
 
-// A word, an input of two lines, and what the first line becomes.
+// A word, an input of two lines that one read gives, and what the first line becomes.
 type FirstLine = (&'static str, &'static str, &'static str);
 
 // The first four lines stay as they were read, and the others don't.
@@ -54,7 +54,7 @@ static FIRST_LINES: [FirstLine; 8] = [
     ("truncate:5", "a\nb\n", "a\n"),
     ("pad:1", "a\nb\n", "a\n"),
     ("wrap:5", "a\nb\n", "a\n"),
-    ("plain", "\x1b[31ma\x1b[39m\nb\n", "a\n"),
+    ("plain", "\x1b[ma\nb\n", "a\n"),
     ("truncate:1", "ab\nb\n", "a\n"),
     ("pad:3", "a\nb\n", "a  \n"),
     ("wrap:1", "a b\nc\n", "a\nb\n"),
