@@ -280,8 +280,8 @@ def sanitize(text: Union[str, bytes], *, show: bool = False, links: bool = False
     character or bidirectional control is dropped, or with `show` shown in printing characters. The link and then the style still
     open at the end are closed.
 
-    The text may be `bytes`: then what isn't UTF-8 becomes U+FFFD, as by `bytes.decode(errors="replace")`. A `str` whose
-    surrogates stand for such bytes (PEP 383, `surrogateescape`), as in a file's name, is made safe as these bytes are.
+    The text may be `bytes`: then what isn't UTF-8 becomes U+FFFD, as by `bytes.decode(errors="replace")`. A `str` with
+    surrogates for such bytes (PEP 383, `surrogateescape`), as in a file's name, is made safe as these bytes are.
 
     >>> sanitize("\\x1b[2J\\x1b[31mred\\x07")
     '\\x1b[31mred\\x1b[39m'

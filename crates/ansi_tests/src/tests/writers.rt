@@ -60,7 +60,7 @@ static ROWS: [(&str, &[&str], &[&str]); 11] = [
 /// Pieces and bytes that no row has.
 const MANY: usize = 60;
 
-/// A writer that takes so many pieces of so many bytes, and compares each with the expected one.
+/// A writer that takes a number of pieces and of bytes, and compares each piece with the expected one.
 #[derive(Drop)]
 struct Limited<'r> {
     pieces: &'r [&'r str],
