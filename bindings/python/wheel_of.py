@@ -55,8 +55,11 @@ def _platform(module, settings):
     if not (settings or {}).get("manylinux"):
         return re.sub(r"[-.]", "_", sysconfig.get_platform())
     newest = max((int(minor) for minor in re.findall(rb"GLIBC_2\.(\d+)", module)), default=0)
+    # (`e_machine` of its ELF header)
+    processor = {62: "x86_64", 183: "aarch64"}[module[18]]
     # (older ones have a name of their own, which older pips know too)
-    return "manylinux_2_{}_x86_64".format(newest) if newest > 17 else "manylinux_2_17_x86_64.manylinux2014_x86_64"
+    names = "manylinux_2_{0}_{1}" if newest > 17 else "manylinux_2_17_{1}.manylinux2014_{1}"
+    return names.format(newest, processor)
 
 
 def _module():

@@ -1,8 +1,9 @@
-//! Tells cargo where the proved library is. A package of a release has one in it, in `lib/`, for one target. Otherwise it
+//! Tells cargo where the proved library is. A package of a release has it in `lib/`, for each of its targets. Otherwise it
 //! is the library for C with the kit's C library that it needs: in the folders that `ANSI_STR_C` and `RATTLE_C` name, by
 //! default those of the repository and the kit. If one isn't there, says what to run.
 
 use std::env;
+use std::fs;
 use std::path::{Path, PathBuf};
 use std::process;
 
@@ -22,14 +23,25 @@ fn link(name: &str, variable: &str, usual: PathBuf, to_run: &str) {
     println!("cargo:rustc-link-lib=static={name}");
 }
 
+/// The targets that the package has its library for.
+fn packaged(libraries: &Path) -> Vec<String> {
+    let entries = fs::read_dir(libraries).into_iter().flatten().flatten();
+    let mut targets: Vec<_> = entries
+        .filter_map(|entry| entry.file_name().into_string().ok())
+        .collect();
+    targets.sort();
+    targets
+}
+
 /// Links the library of the package, if it is for this target.
 fn link_packaged(libraries: &Path) {
     let target = env::var("TARGET").expect("cargo sets TARGET");
     let folder = libraries.join(&target);
     if !folder.is_dir() {
         eprintln!(
-            "ansi-str: this package has its library for x86_64-unknown-linux-gnu alone, not for {target}. \
-             ANSI_STR_C and RATTLE_C can name the folders of libansi_str_c.a and liblibc_c.a that you built for it."
+            "ansi-str: this package has its library for {} alone, not for {target}. \
+             ANSI_STR_C and RATTLE_C can name the folders of libansi_str_c.a and liblibc_c.a that you built for it.",
+            packaged(libraries).join(" and ")
         );
         process::exit(1);
     }
