@@ -1,4 +1,4 @@
-/* Checks what heap.c and program.c promise, of these files or of the kit's objects; its arguments are any. Exits with 1 if something differs.
+/* Checks what the files beside it promise, or the kit's objects or the C library in their place; its arguments are any. Exits with 1 if something differs.
  * malloc and realloc are wrapped, to refuse requests and to see their lengths. */
 #include <errno.h>
 #include <stddef.h>
@@ -109,6 +109,22 @@ static void expect_errno(void) {
     expect("that of a call", close(-1) == -1 && rattle_errno() == EBADF);
 }
 
+/* (through these, so that the compiler knows nothing of them) */
+static void *(*volatile copy)(void *, const void *, size_t) = memcpy;
+static void *(*volatile move)(void *, const void *, size_t) = memmove;
+
+/* Copies of each length, from one place to another of the same bytes: each byte arrives, and none is written beside them. */
+static void expect_copies(size_t len, size_t from, size_t to) {
+    unsigned char bytes[400], before[400];
+    int is_apart = from + len <= to || to + len <= from;
+    for (int moves = is_apart ? 0 : 1; moves < 2; moves++) {
+        for (size_t i = 0; i < sizeof bytes; i++) before[i] = bytes[i] = (unsigned char)(i * 7 + len);
+        expect("a copy returns where", (moves ? move : copy)(bytes + to, bytes + from, len) == bytes + to);
+        for (size_t i = 0; i < sizeof bytes; i++)
+            if (bytes[i] != (i >= to && i < to + len ? before[i - to + from] : before[i])) expect("a copy", 0);
+    }
+}
+
 #ifdef __x86_64__
 struct cpuid_feature {
     unsigned cpuid[4], active[4];
@@ -142,6 +158,8 @@ int main(int count, char **words) {
         for (size_t alignment = 1; alignment <= 16; alignment *= 2) expect_heap(LENS[i / COUNT], LENS[i % COUNT], alignment);
     expect_arguments((size_t)count, words);
     expect_errno();
+    for (size_t len = 0; len <= 130; len++)
+        for (size_t to = 0; to <= 270; to++) expect_copies(len, 135, to);
     expect_processor();
     printf("system: %ld are as they should be\n", passed);
     return 0;
