@@ -17,10 +17,10 @@ void *__real_memmove(void *, const void *, size_t);
     }
 
 static inline void *copied(void *to, const char *bytes, size_t len) {
-    ENDS(32) ENDS(16) ENDS(8) ENDS(4) ENDS(2) ENDS(1)
+    ENDS(64) ENDS(32) ENDS(16) ENDS(8) ENDS(4) ENDS(2) ENDS(1)
     return to;
 }
 
-void *__wrap_memcpy(void *to, const void *from, size_t len) { return len > 64 ? __real_memcpy(to, from, len) : copied(to, from, len); }
+void *__wrap_memcpy(void *to, const void *from, size_t len) { return len > 128 ? __real_memcpy(to, from, len) : copied(to, from, len); }
 
-void *__wrap_memmove(void *to, const void *from, size_t len) { return len > 64 ? __real_memmove(to, from, len) : copied(to, from, len); }
+void *__wrap_memmove(void *to, const void *from, size_t len) { return len > 128 ? __real_memmove(to, from, len) : copied(to, from, len); }

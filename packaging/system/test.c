@@ -6,6 +6,7 @@
 #include <stdio.h>
 #include <stdlib.h>
 #include <string.h>
+#include <sys/resource.h>
 #include <unistd.h>
 
 struct tried {
@@ -51,15 +52,16 @@ static int is_filled(const unsigned char *bytes, size_t len, unsigned char byte)
     return len == 0;
 }
 
-/* a block that was granted, for this request */
+/* The block that was granted for this request, or NULL: one is refused only if malloc or realloc was called for it, and refused. */
 static unsigned char *granted(struct tried tried, size_t len, size_t alignment) {
-    expect("a request is granted", tried.ok == 1 && tried.block != NULL);
+    size_t called_for = requested;
+    requested = 0;
+    expect("a request is granted, or refused", tried.ok == !(refuses && called_for) && tried.block != NULL);
+    if (!tried.ok) return NULL;
     expect("a block is aligned", (uintptr_t)tried.block % alignment == 0);
-    expect("a request has its length", requested == (len ? len : alignment));
+    expect("malloc is called for as much", called_for == 0 || called_for >= (len ? len : alignment));
     return tried.block;
 }
-
-static void is_refused(struct tried tried) { expect("a request is refused", tried.ok == 0 && tried.block != NULL); }
 
 static void expect_heap(size_t len, size_t next, size_t alignment) {
     size_t kept = len < next ? len : next;
@@ -69,16 +71,44 @@ static void expect_heap(size_t len, size_t next, size_t alignment) {
     memset(block, 0xa5, len);
     memset(other, 0x5a, len);
     refuses = 1;
-    is_refused(rattle_alloc(len, alignment));
-    is_refused(rattle_realloc(block, kept, next, alignment));
+    unsigned char *third = granted(rattle_alloc(len, alignment), len, alignment);
+    if (third) rattle_dealloc(memset(third, 0, len));
+    unsigned char *moved = granted(rattle_realloc(block, kept, next, alignment), next, alignment);
     refuses = 0;
-    expect("a block stays if it is refused another length", is_filled(block, len, 0xa5));
-    block = granted(rattle_realloc(block, kept, next, alignment), next, alignment);
-    expect("the bytes to keep are kept", is_filled(block, kept, 0xa5));
-    memset(block, 0xa5, next);
+    if (!moved) {
+        expect("a block stays if it is refused another length", is_filled(block, len, 0xa5));
+        moved = granted(rattle_realloc(block, kept, next, alignment), next, alignment);
+    }
+    expect("the bytes to keep are kept", is_filled(moved, kept, 0xa5));
+    memset(moved, 0xa5, next);
     expect("blocks are apart", is_filled(other, len, 0x5a));
-    rattle_dealloc(block);
+    expect("no memory has so many bytes", !rattle_alloc(SIZE_MAX, alignment).ok && !rattle_realloc(moved, next, SIZE_MAX, alignment).ok);
+    expect("a block stays then", is_filled(moved, next, 0xa5));
+    rattle_dealloc(moved);
     rattle_dealloc(other);
+    requested = 0;
+}
+
+/* Many blocks of random lengths, requested, moved and freed in little memory: each keeps its bytes. */
+static void expect_blocks(void) {
+    static unsigned char *blocks[256];
+    static size_t lens[256];
+    struct rlimit little = {16 << 20, 16 << 20};
+    uint64_t random = 1;
+    expect("a limit", setrlimit(RLIMIT_AS, &little) == 0);
+    for (long turn = 0; turn < 100000; turn++) {
+        random = random * 6364136223846793005u + 1442695040888963407u;
+        size_t i = random >> 56, len = (random >> 40 & 0xffff) >> (random >> 36) % 16, kept = len < lens[i] ? len : lens[i];
+        expect("a block's bytes stay", is_filled(blocks[i], lens[i], (unsigned char)i));
+        if (blocks[i] && random >> 32 & 1) {
+            rattle_dealloc(blocks[i]);
+            blocks[i] = NULL, lens[i] = 0;
+            continue;
+        }
+        blocks[i] = granted(blocks[i] ? rattle_realloc(blocks[i], kept, len, 1) : rattle_alloc(len, 1), len, 1);
+        expect("the bytes to keep are kept", is_filled(blocks[i], kept, (unsigned char)i));
+        memset(blocks[i], (int)i, lens[i] = len);
+    }
 }
 
 static void expect_argument(size_t index, const char *word) {
@@ -152,10 +182,11 @@ static void expect_processor(void) {}
 #endif
 
 int main(int count, char **words) {
-    static const size_t LENS[] = {0, 1, 2, 15, 16, 17, 255, 4096, 100000, 1 << 20};
+    static const size_t LENS[] = {0, 1, 2, 15, 16, 17, 255, 4096, 100000, 1 << 20, 5 << 20};
     enum { COUNT = sizeof LENS / sizeof LENS[0] };
     for (size_t i = 0; i < COUNT * COUNT; i++)
-        for (size_t alignment = 1; alignment <= 16; alignment *= 2) expect_heap(LENS[i / COUNT], LENS[i % COUNT], alignment);
+        for (size_t alignment = 1; alignment <= 16; alignment *= 4) expect_heap(LENS[i / COUNT], LENS[i % COUNT], alignment);
+    expect_blocks();
     expect_arguments((size_t)count, words);
     expect_errno();
     for (size_t len = 0; len <= 130; len++)
