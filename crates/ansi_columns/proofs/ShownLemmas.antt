@@ -1,5 +1,5 @@
 -- What follows a text that is displayed: what closes its link and its style, a tail, and blanks.
-use Rattle.std.proofs.Common.{◌≡◌, ℕ, zero, suc, ◌+◌, ◌-◌, ◌<◌, ◌≤◌, Bool, true, false, not, ◌&&◌, List, [], ◌∷◌, ◌++◌, length, take, nat_le, if◌then◌else◌, refl, sym, ◌∙◌, ap, ap₂, arith, append_assoc, length-append}
+use Rattle.std.proofs.Common.{◌≡◌, ℕ, zero, suc, ◌+◌, ◌-◌, ◌<◌, ◌≤◌, Bool, true, false, not, ◌&&◌, List, [], ◌∷◌, ◌++◌, length, take, nat_le, if◌then◌else◌, refl, sym, ◌∙◌, ap, ap₂, arith, append_assoc, length-append, append-nil}
 use Rattle.std.specs.Str.{byte}
 use Rattle.std.proofs.lemmas.Bool.{le-leb, lt-leb, and_right}
 use Rattle.std.proofs.lemmas.List.{append_cancel_right, length-replicate}
@@ -129,6 +129,12 @@ length-between n alignment x =
       length-replicate before (byte " "),
       length-replicate (n - before) (byte " "),
     )
+
+-- no blanks are nothing
+pub between-none : (alignment : Alignment) (x : List ℕ) → between_blanks 0 alignment x ≡ x
+between-none Left x = append-nil x
+between-none Right x = append-nil x
+between-none Center x = append-nil x
 
 -- it is a padded one, if it ends with what closes its pen and the blanks are as many as it lacks
 pub padded-between : {u : List ℕ} {n : ℕ} (t : List ℕ) (width : ℕ) (alignment : Alignment) → u ≡ t ++ closing t → n ≡ missing t width → between_blanks n alignment u ≡ padded t width alignment

@@ -8,6 +8,7 @@ ghost use Rattle.ansi_columns.specs.Fitted.{fitted};
 ghost use Rattle.ansi_columns.specs.Shown.{truncated_ending, truncated, KeptStays, missing, closing};
 
 use crate::shown::{Alignment, TruncatedParts, pad_cell, truncated_parts, write_shown};
+use ansi_safe::links::pen_after;
 use std::alloc::{AllocError, Allocator};
 use std::borrow::CowStr;
 
@@ -49,5 +50,6 @@ pub fn fit<'t, A: Allocator + Copy>(
         return write_shown(alloc, front, &ending, tail, missing, alignment);
     }
     let cut = write_shown(alloc, front, &ending, tail, 0, alignment)?;
-    pad_cell(alloc, cut, width, alignment)
+    let ending = pen_after(cut.as_str()).ending();
+    pad_cell(alloc, cut, &ending, width, alignment)
 }

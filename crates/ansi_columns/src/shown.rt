@@ -27,8 +27,8 @@ use crate::plain_cells::{PlainFront, fitted, goes_past, plain_cell, plain_cut, p
 use crate::views::View;
 use crate::walks::{Walk, first_run};
 use crate::widths;
-use ansi_safe::cells::cell_of;
-use ansi_safe::links::{Ending, LONGEST_ENDING, pen_after};
+use ansi_safe::cells::cell_and_ending;
+use ansi_safe::links::{Ending, LONGEST_ENDING};
 use std::alloc::{AllocError, Allocator};
 use std::borrow::CowStr;
 
@@ -121,8 +121,7 @@ pub(crate) fn truncated_parts<'t, 'a, A: Allocator>(
         return Ok(plain);
     }
     let cut = truncation(text, width, tail, fitted(text, width, &runs));
-    let front = cell_of(alloc, &text[..cut.end.offset])?;
-    let ending = pen_after(front.as_str()).ending();
+    let (front, ending) = cell_and_ending(alloc, &text[..cut.end.offset])?;
     Ok(TruncatedParts {
         front,
         ending,
@@ -347,16 +346,20 @@ pub fn pad<'t, A: Allocator + Copy>(
         let text = CowStr::Borrowed(text);
         return write_shown(alloc, text, &ending, "", plain.left, alignment);
     }
-    pad_cell(alloc, cell_of(alloc, text)?, width, alignment)
+    let (cell, ending) = cell_and_ending(alloc, text)?;
+    pad_cell(alloc, cell, &ending, width, alignment)
 }
 
-/// The text of a cell, padded.
+/// The text of a cell, padded. This ends its pen.
 pub(crate) fn pad_cell<'t, A: Allocator>(
     alloc: A,
     cell: CowStr<'t, A>,
+    ending: &Ending,
     width: usize,
     alignment: Alignment,
 ) -> Result<CowStr<'t, A>, AllocError>
+    requires { ending.now.link_end.now ++ close (rendition_of ending.now.style)
+        ≡ closing (cow_str_bytes cell) }
     ensures bytes { IfOk result (λ c.
         cow_str_bytes c ≡ padded (cow_str_bytes cell.entry) width alignment) }
     ensures borrowed { IfOk result (λ c. IsBorrowedStr c ↔ (IsBorrowedStr cell.entry
@@ -368,8 +371,7 @@ pub(crate) fn pad_cell<'t, A: Allocator>(
         × (closing (cow_str_bytes cell.entry) ≡ []) → IsOk result }
 {
     let missing = width.saturating_sub(widths::width(cell.as_str(), View::Given));
-    let ending = pen_after(cell.as_str()).ending();
-    write_shown(alloc, cell, &ending, "", missing, alignment)
+    write_shown(alloc, cell, ending, "", missing, alignment)
 }
 
 impl Alignment {

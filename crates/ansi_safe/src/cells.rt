@@ -1,22 +1,29 @@
 //! What shown texts are made of: the text of a cell, on one line, and of a paragraph.
 ghost use Rattle.std.specs.Prelude.{◌≡◌, ◌↔◌, ◌≤◌, ◌∷◌, ◌++◌, length, IsTrue, IsOk, IfOk};
-ghost use Rattle.std.specs.Prelude.{OnOk, MatchOption, [], chars, encode_utf8_all, string_bytes};
+ghost use Rattle.std.specs.Prelude.{OnOk, MatchOption, IfSome, is_some, [], chars, encode_utf8_all};
+ghost use Rattle.std.specs.Prelude.{string_bytes};
 ghost use Rattle.std.specs.Cow.{cow_str_bytes, IsBorrowedStr};
 ghost use Rattle.std.specs.List.{list_all};
 ghost use Rattle.ansi_items.specs.Pieces.{spelling};
-ghost use Rattle.ansi_items.specs.Plain.{plain};
+ghost use Rattle.ansi_items.specs.Plain.{plain, marks};
 ghost use Rattle.ansi_items.specs.Scans.{kind_of, piece_of_kind};
+ghost use Rattle.ansi_style.specs.States.{rendition_of};
+ghost use Rattle.ansi_style.specs.Styled.{style_after};
 ghost use Rattle.ansi_safe.specs.declared.cells.Place.{Place};
 ghost use Rattle.ansi_safe.specs.declared.cells.Place.TheVariants.{Cell};
 ghost use Rattle.ansi_safe.specs.declared.policy.Links.TheVariants.{Keep};
 ghost use Rattle.ansi_safe.specs.Safe.{is_safe};
 ghost use Rattle.ansi_safe.specs.Cells.{in_place, run_in, piece_in, placed, cell, paragraph};
 ghost use Rattle.ansi_safe.specs.Cells.{cell_char, stays_in, run_stays, piece_stays, is_placed};
+ghost use Rattle.ansi_safe.specs.Cells.{is_cell};
+ghost use Rattle.ansi_safe.specs.Links.{link_of, link_end};
 
 use crate::allowed::{is_allowed, is_printing, may_stay, split_first};
 use crate::front::split_ordinary;
+use crate::links::{Ending, Pen, link_after, pen_after, plain_pen};
 use crate::policy::Links;
 use ansi_items::ansitok::{Kind, Scanner};
+use ansi_style::styles::{self, plain_style};
 use std::alloc::{AllocError, Allocator};
 use std::borrow::CowStr;
 
@@ -49,6 +56,70 @@ pub fn cell_of<A: Allocator>(alloc: A, text: &str) -> Result<CowStr<'_, A>, Allo
         IsTrue (list_all (stays_in Cell) (chars (plain (cow_str_bytes c))))) }
 {
     text_in(alloc, text, Place::Cell)
+}
+
+/// The text of a cell, as `cell_of` returns it, and what ends the link and the style at its end. A
+/// text that stays as it is is read once.
+///
+/// `Err` means out of memory. (Own.)
+///
+/// ```
+/// let (cell, ending) = cell_and_ending(rt.alloc(), "\x1b[1ma\tb")?;
+/// assert!(rt; cell.as_str() == "\x1b[1ma b" && !ending.is_empty());
+/// ```
+pub fn cell_and_ending<A: Allocator>(
+    alloc: A,
+    text: &str,
+) -> Result<(CowStr<'_, A>, Ending), AllocError>
+    ensures bytes { IfOk result (λ r. cow_str_bytes r.0 ≡ cell text.now) }
+    ensures link_end { IfOk result (λ r.
+        r.1.link_end.now ≡ link_end (link_of (marks (cell text.now)))) }
+    ensures style { IfOk result (λ r. rendition_of r.1.style ≡ style_after (cell text.now)) }
+    ensures borrowed { IfOk result (λ r. IsBorrowedStr r.0 ↔ (cell text.now ≡ text.now)) }
+    ensures len { IfOk result (λ r. length (cow_str_bytes r.0) ≤ length text.now) }
+    ensures takes_no_memory { cell text.now ≡ text.now → IsOk result }
+{
+    if let Some(pen) = pen_if_cell(text) {
+        return Ok((CowStr::Borrowed(text), pen.ending()));
+    }
+    let cell = write_placed(alloc, text, Place::Cell)?;
+    let ending = pen_after(cell.as_str()).ending();
+    Ok((CowStr::Owned(cell), ending))
+}
+
+/// The pen after a text, or `None` if the text doesn't stay as it is in a cell. Doesn't allocate.
+fn pen_if_cell(text: &str) -> Option<Pen<'_>>
+    ensures none { is_some result ≡ is_cell text.now }
+    ensures style { IfSome result (λ pen. rendition_of pen.style ≡ style_after text.now) }
+    ensures link { IfSome result (λ pen. pen.link.now ≡ link_of (marks text.now)) }
+{
+    let rest = after_staying(text, Place::Cell);
+    if rest.is_empty() {
+        return Some(plain_pen());
+    }
+    pen_after_items(rest)
+}
+
+/// Like `pen_if_cell`, item by item.
+fn pen_after_items(text: &str) -> Option<Pen<'_>>
+    ensures none { is_some result ≡ is_cell text.now }
+    ensures style { IfSome result (λ pen. rendition_of pen.style ≡ style_after text.now) }
+    ensures link { IfSome result (λ pen. pen.link.now ≡ link_of (marks text.now)) }
+{
+    let mut style = plain_style();
+    let mut link = "";
+    for item in Scanner::new(text) {
+        let piece = &text[item.start..item.end];
+        if !piece_stays(item.kind, piece, Place::Cell) {
+            return None;
+        }
+        if item.kind == Kind::Sgr {
+            styles::apply(&mut style, piece);
+        } else if item.kind == Kind::Other {
+            link = link_after(link, piece);
+        }
+    }
+    Some(Pen { style, link })
 }
 
 /// The text of a paragraph: TAB becomes a blank, line ends, printing characters, select graphic
@@ -112,11 +183,25 @@ fn text_in<A: Allocator>(alloc: A, text: &str, place: Place) -> Result<CowStr<'_
 fn is_placed(text: &str, place: Place) -> bool
     ensures { result ≡ is_placed place text.now }
 {
+    let rest = after_staying(text, place);
+    rest.is_empty() || items_stay(rest, place)
+}
+
+/// A text without the ordinary characters that it begins with: nothing if it has no sequence and all
+/// of its characters stay in a place. What is left stays there if the text does, and leaves the same
+/// open.
+#[inline(always)]
+fn after_staying(text: &str, place: Place) -> &str
+    ensures stays { is_placed place text.now ≡ is_placed place result.now }
+    ensures style { style_after text.now ≡ style_after result.now }
+    ensures link { link_of (marks text.now) ≡ link_of (marks result.now) }
+{
     let (_, rest) = split_ordinary(text, false);
     if !rest.starts_with('\x1b') && run_stays(rest, place) {
-        return true;
+        ""
+    } else {
+        rest
     }
-    items_stay(rest, place)
 }
 
 /// Like `is_placed`, item by item.

@@ -1,13 +1,13 @@
-use Rattle.std.proofs.Common.{◌≡◌, ◌+◌, ◌≤◌, ◌++◌, length, IfSome, sym, ◌∙◌, ap, subst, append-nil, arith}
+use Rattle.std.proofs.Common.{◌≡◌, ℕ, ◌+◌, ◌≤◌, List, [], ◌++◌, length, IfSome, refl, sym, ◌∙◌, ap, subst, append-nil, arith}
 use Rattle.std.specs.Cow.{cow_str_bytes}
 use Rattle.std.proofs.lemmas.Result.{IfOk-weaker}
 use Rattle.ansi_safe.specs.Cells.{cell}
 use Rattle.ansi_style.specs.States.{rendition_of}
 use Rattle.ansi_style.specs.Written.{close, longest_close}
 use Rattle.ansi_safe.specs.Links.{longest_link_end}
-use Rattle.ansi_columns.specs.Shown.{truncated, missing}
+use Rattle.ansi_columns.specs.Shown.{truncated, missing, closing}
 use Rattle.ansi_columns.proofs.MissingLemmas.{IsLack}
-use Rattle.ansi_columns.proofs.ShownLemmas.{padded-between, length-between}
+use Rattle.ansi_columns.proofs.ShownLemmas.{ending-closing, between-none, padded-between, length-between}
 use Rattle.ansi_columns.proofs.fit.fit.Goals as goal
 
 -- what is missing is known
@@ -28,3 +28,29 @@ returns-in-Some-clause-len g c =
     IfOk-weaker c.write_shown.result _ _ (λ s written.
     let size : length (cow_str_bytes s) ≡ length u + c.in-Some.missing = ap length written ∙ length-between c.in-Some.missing c.args.alignment u in
     omega (arith, size, most, lack)) c.write_shown.ensures.bytes
+
+-- what is cut is measured
+pub pad_cell-requires : goal.pad_cell-requires
+pad_cell-requires g c =
+    let pen = c.pen_after.ensures in
+    ending-closing c.as_str.ensures.value pen.style pen.link c.ending-ending.ensures.link_end (ap rendition_of c.ending-ending.ensures.style)
+
+pub returns-clause-borrowed : goal.returns-clause-borrowed
+returns-clause-borrowed g c =
+    let full : List ℕ → Type 0 = λ t. missing t c.args.width ≡ 0 in
+    let closed : List ℕ → Type 0 = λ t. closing t ≡ [] in
+    let parts = c.in_ok-front.ensures in
+    let same = c.in_ok-cut.ensures.bytes ∙ between-none c.args.alignment _ ∙ parts.bytes in
+    let cut = c.in_ok-cut.ensures.borrowed in
+    IfOk-weaker c.pad_cell.result _ _ (λ s iff. (
+      λ b. (parts.borrowed.0 (cut.0 (iff.0 b).0).0, sym parts.ending ∙ (cut.0 (iff.0 b).0).1, subst full same (iff.0 b).1, subst closed same (iff.0 b).2),
+      λ all. iff.1 (cut.1 (parts.borrowed.1 all.0, parts.ending ∙ all.1, refl), subst full (sym same) all.2, subst closed (sym same) all.3),
+    )) c.pad_cell.ensures.borrowed
+
+pub returns-clause-takes_no_memory : goal.returns-clause-takes_no_memory
+returns-clause-takes_no_memory g c =
+    let full : List ℕ → Type 0 = λ t. missing t c.args.width ≡ 0 in
+    let closed : List ℕ → Type 0 = λ t. closing t ≡ [] in
+    let parts = c.in_ok-front.ensures in
+    let same = c.in_ok-cut.ensures.bytes ∙ between-none c.args.alignment _ ∙ parts.bytes in
+    λ all. c.pad_cell.ensures.takes_no_memory (subst full (sym same) all.2, subst closed (sym same) all.3)

@@ -6,25 +6,22 @@ use Rattle.std.specs.Cow.{cow_str_bytes}
 use Rattle.std.proofs.lemmas.Result.{IfOk-weaker}
 use Rattle.ansi_columns.specs.Columns.{columns}
 use Rattle.ansi_columns.specs.Shown.{missing, closing}
-use Rattle.ansi_columns.proofs.ShownLemmas.{ending-closing, padded-between, length-padded}
+use Rattle.ansi_columns.proofs.ShownLemmas.{padded-between, length-padded}
 use Rattle.ansi_columns.proofs.shown.pad_cell.Goals as goal
 
 pub returns-clause-bytes : goal.returns-clause-bytes
 returns-clause-bytes g c =
     let t = cow_str_bytes c.args.cell in
-    let pen = c.pen_after.ensures in
-    let closes = c.ending-ending.result.link_end.now ++ close (rendition_of c.ending-ending.result.style) in
-    let ended = ending-closing c.as_str-2.ensures.value pen.style pen.link c.ending-ending.ensures.link_end (ap rendition_of c.ending-ending.ensures.style) in
+    let closes = c.args.ending.now.link_end.now ++ close (rendition_of c.args.ending.now.style) in
     let lack : c.saturating_sub-missing.result ≡ missing t c.args.width = omega (arith, c.saturating_sub-missing.ensures, c.width.ensures, ap (λ u. columns (plain u)) c.as_str.ensures.value) in
-    let is = padded-between t c.args.width c.args.alignment (append-nil (t ++ closes) ∙ ap (λ u. t ++ u) ended) lack in
+    let is = padded-between t c.args.width c.args.alignment (append-nil (t ++ closes) ∙ ap (λ u. t ++ u) c.requires) lack in
     IfOk-weaker c.write_shown.result _ _ (λ s written. written ∙ is) c.write_shown.ensures.bytes
 
 pub returns-clause-borrowed : goal.returns-clause-borrowed
 returns-clause-borrowed g c =
     let t = cow_str_bytes c.args.cell in
-    let pen = c.pen_after.ensures in
-    let closes = c.ending-ending.result.link_end.now ++ close (rendition_of c.ending-ending.result.style) in
-    let ended : closes ++ [] ≡ closing t = append-nil closes ∙ ending-closing c.as_str-2.ensures.value pen.style pen.link c.ending-ending.ensures.link_end (ap rendition_of c.ending-ending.ensures.style) in
+    let closes = c.args.ending.now.link_end.now ++ close (rendition_of c.args.ending.now.style) in
+    let ended : closes ++ [] ≡ closing t = append-nil closes ∙ c.requires in
     let lack : c.saturating_sub-missing.result ≡ missing t c.args.width = omega (arith, c.saturating_sub-missing.ensures, c.width.ensures, ap (λ u. columns (plain u)) c.as_str.ensures.value) in
     IfOk-weaker c.write_shown.result _ _ (λ s iff. (
       λ b. ((iff.0 b).0, sym lack ∙ (iff.0 b).2, sym ended ∙ (iff.0 b).1),
@@ -39,8 +36,7 @@ returns-clause-len g c =
 pub returns-clause-takes_no_memory : goal.returns-clause-takes_no_memory
 returns-clause-takes_no_memory g c =
     let t = cow_str_bytes c.args.cell in
-    let pen = c.pen_after.ensures in
-    let closes = c.ending-ending.result.link_end.now ++ close (rendition_of c.ending-ending.result.style) in
-    let ended : closes ++ [] ≡ closing t = append-nil closes ∙ ending-closing c.as_str-2.ensures.value pen.style pen.link c.ending-ending.ensures.link_end (ap rendition_of c.ending-ending.ensures.style) in
+    let closes = c.args.ending.now.link_end.now ++ close (rendition_of c.args.ending.now.style) in
+    let ended : closes ++ [] ≡ closing t = append-nil closes ∙ c.requires in
     let lack : c.saturating_sub-missing.result ≡ missing t c.args.width = omega (arith, c.saturating_sub-missing.ensures, c.width.ensures, ap (λ u. columns (plain u)) c.as_str.ensures.value) in
     λ all. c.write_shown.ensures.takes_no_memory (ended ∙ all.1, lack ∙ all.0)

@@ -1,7 +1,6 @@
-use Rattle.std.proofs.Common.{sym, subst, ap, ◌≡◌, arith}
+use Rattle.std.proofs.Common.{refl, sym, subst, ◌≡◌, arith}
 use Rattle.std.proofs.lemmas.Bool.{false≢true}
 use Rattle.ansi_safe.specs.Cells.{cell}
-use Rattle.ansi_style.specs.States.{rendition_of}
 use Rattle.ansi_safe.proofs.CellTextLemmas.{length-cell}
 use Rattle.ansi_columns.specs.Shown.{KeptStays}
 use Rattle.ansi_columns.proofs.KeptLemmas.{kept-part, truncated-front}
@@ -17,19 +16,19 @@ unfolding KeptStays
 returns-in_err-front-clause-takes_no_memory g c =
     let end = c.truncation-cut.ensures in
     let kept = kept-part c.args.text.now c.utf8.text c.truncation-cut.result.end c.args.width c.args.tail.now end.walk end.fits c.range.ensures.value in
-    λ all. absurd (false≢true (rw c.in_err-front.was at (c.cell_of.ensures.takes_no_memory (subst (λ u. cell u ≡ u) (sym kept) all))))
+    λ all. absurd (false≢true (rw c.in_err-front.was at (c.cell_and_ending.ensures.takes_no_memory (subst (λ u. cell u ≡ u) (sym kept) all))))
 
 pub returns-2-clause-bytes : goal.returns-2-clause-bytes
 returns-2-clause-bytes g c =
     let end = c.truncation-cut.ensures in
-    let pen = c.pen_after.ensures in
-    cut-bytes (truncated-front c.args.text.now c.utf8.text c.truncation-cut.result.end c.args.width c.args.tail.now end.walk end.fits c.range.ensures.value c.in_ok-front.ensures.bytes c.as_str.ensures.value pen.style pen.link c.ending-ending.ensures.link_end (ap rendition_of c.ending-ending.ensures.style) end.tail).cut
+    let made = c.in_ok-front.ensures in
+    cut-bytes (truncated-front c.args.text.now c.utf8.text c.truncation-cut.result.end c.args.width c.args.tail.now end.walk end.fits c.range.ensures.value made.bytes (sym made.bytes) made.style refl made.link_end refl end.tail).cut
 
 pub returns-2-clause-ending : goal.returns-2-clause-ending
 returns-2-clause-ending g c =
     let end = c.truncation-cut.ensures in
-    let pen = c.pen_after.ensures in
-    cut-ending (truncated-front c.args.text.now c.utf8.text c.truncation-cut.result.end c.args.width c.args.tail.now end.walk end.fits c.range.ensures.value c.in_ok-front.ensures.bytes c.as_str.ensures.value pen.style pen.link c.ending-ending.ensures.link_end (ap rendition_of c.ending-ending.ensures.style) end.tail).cut
+    let made = c.in_ok-front.ensures in
+    cut-ending (truncated-front c.args.text.now c.utf8.text c.truncation-cut.result.end c.args.width c.args.tail.now end.walk end.fits c.range.ensures.value made.bytes (sym made.bytes) made.style refl made.link_end refl end.tail).cut
 
 pub returns-2-clause-borrowed : goal.returns-2-clause-borrowed
 unfolding KeptStays
@@ -43,6 +42,6 @@ pub returns-2-clause-len : goal.returns-2-clause-len
 returns-2-clause-len g c =
     let t = c.args.text.now in
     let end = c.truncation-cut.ensures in
-    let pen = c.pen_after.ensures in
-    let cut = truncated-front t c.utf8.text c.truncation-cut.result.end c.args.width c.args.tail.now end.walk end.fits c.range.ensures.value c.in_ok-front.ensures.bytes c.as_str.ensures.value pen.style pen.link c.ending-ending.ensures.link_end (ap rendition_of c.ending-ending.ensures.style) end.tail in
+    let made = c.in_ok-front.ensures in
+    let cut = truncated-front t c.utf8.text c.truncation-cut.result.end c.args.width c.args.tail.now end.walk end.fits c.range.ensures.value made.bytes (sym made.bytes) made.style refl made.link_end refl end.tail in
     omega (arith, cut-length cut.cut, length-cell t c.utf8.text)
