@@ -111,7 +111,7 @@ pub(crate) fn plain_cell(text: &str, width: usize) -> Option<PlainFront>
 pub(crate) fn plain_runs(text: &str, width: usize) -> Option<PlainFront>
     ensures { IfSome result (IsFront text.now width) }
 {
-    if LONGEST < text.len() {
+    if LONGEST < text.len() || begins_other_sequence(text) {
         return None;
     }
     let mut style = styles::plain_style();
@@ -144,6 +144,12 @@ pub(crate) fn plain_runs(text: &str, width: usize) -> Option<PlainFront>
         last,
         run: None,
     })
+}
+
+/// Whether a text begins with an ESC that begins no control sequence, as a link or a title does.
+#[inline(always)]
+fn begins_other_sequence(text: &str) -> bool {
+    matches!(text.as_bytes(), [0x1B, first, ..] if *first != b'[')
 }
 
 /// The longest known prefix of a text that fits, after what `plain_runs` returned for `width`.

@@ -184,7 +184,8 @@ impl Walk {
         ensures { IfSome result (λ (walk, width). (view : View) → IsWalkIn view text.now self →
             IsPastCluster view text.now self walk width) }
     {
-        if !may_begin_single(&text.as_bytes()[self.offset..self.run_end]) {
+        let run = &text.as_bytes()[self.offset..self.run_end];
+        if !(has_second(run) && may_begin_single(run)) {
             return None;
         }
         let mut chars = text[self.offset..self.run_end].chars();
@@ -220,7 +221,7 @@ impl Walk {
                 self.past_ascii_clusters(text, most, view)
             }
             [0x20..=0x7E, next @ ..] if !may_begin_single(next) => (self, 0),
-            _ if may_begin_single(run) => self.past_letters(text, most),
+            _ if has_second(run) && may_begin_single(run) => self.past_letters(text, most),
             _ => (self, 0),
         }
     }
@@ -558,24 +559,52 @@ impl Walk {
     }
 }
 
+/// The first bytes from 0xC0 on that begin only characters of which `is_single` is true, a bit each: C3
+/// to CB, CD to DB, E4 to E9, EB to ED.
+const SINGLE: u64 = 0x0000_3BF0_0FFF_EFF8;
+
+/// Those that begin others too: E1, E2, E3, EA, EF.
+const PARTLY_SINGLE: u64 = 0x0000_840E_0000_0000;
+
 /// Whether a character of which `is_single` is true may begin with the first bytes of these, perhaps
 /// among others. It saves decoding most other characters.
 #[inline(always)]
 fn may_begin_single(bytes: &[u8]) -> bool {
     match bytes {
-        [
-            0x20..=0x7E | 0xC3..=0xCB | 0xCD..=0xDB | 0xE4..=0xE9 | 0xEB..=0xED,
-            ..
-        ] => true,
-        [0xE1, 0x82..=0x83 | 0x88..=0x9B | 0xB8..=0xBF, ..] => true,
-        [
-            0xE2,
-            0x80 | 0x82..=0x83 | 0x88..=0x8B | 0x94..=0x96 | 0xA0..=0xA3,
-            ..
-        ] => true,
-        [0xE3, 0x80..=0x83 | 0x90..=0xBF, ..] => true,
-        [0xEA, 0xB0..=0xBF, ..] => true,
-        [0xEF, 0xBC..=0xBE, ..] => true,
+        [0x20..=0x7E, ..] => true,
+        [first @ 0xC0.., second, ..] => {
+            let first = *first;
+            is_bit(SINGLE, first) || (is_bit(PARTLY_SINGLE, first) && is_second(first, *second))
+        }
+        _ => false,
+    }
+}
+
+/// Whether the bit of a byte from 0xC0 on is set.
+#[inline(always)]
+fn is_bit(set: u64, byte: u8) -> bool
+    requires { 0xC0 ≤ byte }
+{
+    set >> (byte - 0xC0) & 1 == 1
+}
+
+/// Whether a second byte may follow one of `PARTLY_SINGLE` in such a character.
+#[inline(always)]
+fn is_second(first: u8, second: u8) -> bool {
+    match first {
+        0xE1 => matches!(second, 0x82..=0x83 | 0x88..=0x9B | 0xB8..=0xBF),
+        0xE2 => matches!(second, 0x80 | 0x82..=0x83 | 0x88..=0x8B | 0x94..=0x96 | 0xA0..=0xA3),
+        0xE3 => matches!(second, 0x80..=0x83 | 0x90..=0xBF),
+        0xEA => matches!(second, 0xB0..=0xBF),
+        _ => matches!(second, 0xBC..=0xBE),
+    }
+}
+
+/// Whether more bytes follow a first character of which `is_single` is true, which has at most three.
+#[inline(always)]
+fn has_second(bytes: &[u8]) -> bool {
+    match bytes {
+        [0x20..=0x7E, _, ..] | [0xC0..=0xDF, _, _, ..] | [_, _, _, _, ..] => true,
         _ => false,
     }
 }

@@ -217,6 +217,7 @@ fn items_stay(text: &str, place: Place) -> bool
 }
 
 /// Whether an item of this kind stays as it is in a place.
+#[inline(always)]
 fn piece_stays(kind: Kind, piece: &str, place: Place) -> bool
     requires { kind ≡ kind_of (piece_of_kind kind piece.now) }
     ensures { result ≡ piece_stays place (piece_of_kind kind piece.now) }

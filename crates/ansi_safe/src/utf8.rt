@@ -91,23 +91,29 @@ fn is_utf8_by_16(bytes: &[u8]) -> bool
     begins_ascii_16(&bytes[bytes.len() - 16..]) || is_short_utf8(rest)
 }
 
-/// Whether the bytes are UTF-8, for bytes that don't begin with 16 of ASCII. Of 64 and more, ASCII at
-/// the end isn't tested again, and often few bytes are left.
+/// Whether the bytes are UTF-8, for bytes that don't begin with 16 of ASCII. ASCII at the end isn't
+/// tested again, and often few bytes are left.
 #[inline(always)]
 fn is_rest_utf8(rest: &[u8]) -> bool
     ensures { IsTrue result ↔ IsUtf8 rest.now }
 {
-    if rest.len() < 64 {
-        return is_short_utf8(rest);
-    }
     let front = before_ascii_16(rest);
-    if front.len() < 64 {
-        return is_short_utf8(front);
+    if front.len() < 32 || is_sparse(front) {
+        is_short_utf8(front)
+    } else {
+        simdutf8::is_utf8(front)
     }
-    simdutf8::is_utf8(front)
 }
 
-/// Whether the bytes are UTF-8, for few bytes that aren't all ASCII. `std` is quicker for these than
+/// Whether most of the bytes seem to be ASCII, by a look at two places, and they are fewer than a block
+/// of `simdutf8`.
+#[inline(always)]
+fn is_sparse(bytes: &[u8]) -> bool {
+    let len = bytes.len();
+    len < 64 && begins_ascii_8(&bytes[len / 4..]) && begins_ascii_8(&bytes[len / 2..])
+}
+
+/// Whether the bytes are UTF-8, for bytes few of which aren't ASCII. `std` is quicker for these than
 /// `simdutf8`.
 #[inline(never)]
 fn is_short_utf8(bytes: &[u8]) -> bool
