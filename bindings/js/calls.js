@@ -1,7 +1,7 @@
 // Text with ANSI control sequences, taken as if the sequences weren't there. index.d.ts says what each call does.
 import {
-  END as BYTES_OF_END, LINE, blocks as blocksOf, bytesOf, called, iterLines as linesOf, listed, noRoom, roomForColumns, roomForEntries, roomForList,
-  roomForOne, told, written,
+  END as BYTES_OF_END, LINE, blocks as blocksOf, bytesOf, called, iterBlocks as blockWalk, iterLines as lineWalk, iterParts, listed, noRoom,
+  roomForColumns, roomForEntries, roomForList, roomForOne, told, written,
 } from './memory.js';
 
 export { OutOfMemoryError } from './memory.js';
@@ -310,11 +310,11 @@ export function split(text, pattern) {
 }
 
 export function iterSplit(text, pattern) {
-  return split(text, pattern).values();
+  return iterParts(textOf('text', text), textOf('pattern', pattern));
 }
 
 export function iterBlocks(text) {
-  return blocks(text).values();
+  return blockWalk(textOf('text', text));
 }
 
 export function blocks(text) {
@@ -391,7 +391,7 @@ function* inUnits(lines, unitsOf) {
 }
 
 export function iterLines(text, width) {
-  const places = linesOf(textOf('text', text), numberOf('width', width));
+  const places = lineWalk(textOf('text', text), numberOf('width', width));
   return isAscii(text) ? places : inUnits(places, unitsIn(raw.strip(text)));
 }
 

@@ -6,7 +6,8 @@
 // - a TypeError for a text that is no string or has a lone surrogate, and for a position or width that is no whole number;
 // - a RangeError for a position or width below 0;
 // - an OutOfMemoryError.
-// No error affects later calls.
+// No error affects later calls. An iterator makes each item on demand, and holds memory of its own for the text until it ends, also by
+// `break`. If an item lacks memory, it throws there, and ends.
 
 /** Memory has run out. */
 export class OutOfMemoryError extends Error {}
@@ -54,7 +55,7 @@ export function find(text: string, pattern: string): number;
 /** The parts of the text between the matches of the pattern, each in its styles. */
 export function split(text: string, pattern: string): string[];
 
-/** An iterator over what `split` returns. All parts are made at once, as there. */
+/** An iterator over what `split` returns, one part at a time. */
 export function iterSplit(text: string, pattern: string): IterableIterator<string>;
 
 export type Edit =
@@ -109,7 +110,7 @@ export interface Block {
  */
 export function blocks(text: string): Block[];
 
-/** An iterator over what `blocks` returns. All blocks are made at once, as there. */
+/** An iterator over what `blocks` returns, one block at a time. */
 export function iterBlocks(text: string): IterableIterator<Block>;
 
 /** The display width of the text in columns: the sum over the extended grapheme clusters of what a terminal shows. */
@@ -177,7 +178,7 @@ export function wrap(text: string, width: number, options: { firstIndent?: strin
  */
 export function lines(text: string, width: number): [number, number][];
 
-/** An iterator over what `lines` returns, each line searched on demand. It holds memory of its own for the text. */
+/** An iterator over what `lines` returns, one line at a time. */
 export function iterLines(text: string, width: number): IterableIterator<[number, number]>;
 
 /** The address of the link (OSC 8) around the unit of the plain text at a position, or null if no link is open there. */

@@ -15,6 +15,8 @@ const ANY_PAGES = 2 ** 31;
 const SHORT = 16;
 /** A memory that has grown past this many bytes is released after the call. */
 const KEPT = 16 * 2 ** 20;
+/** At most this many instances wait for calls. */
+const WAITING = 4;
 /** An ASCII text of fewer units is copied faster unit by unit. */
 const FEW = 64;
 /** A text of so many units is long. */
@@ -30,6 +32,11 @@ export const LINE = 16;
 /** The largest state of a walk, and the largest item. */
 const WALK = 80;
 const ITEM = 48;
+/** A style without the bytes at its end that are only for alignment. */
+const STYLE = 18;
+/** The first room for what a walk writes of an item, and of how many styles the sequences are remembered. */
+const ROOM = 4096;
+const STYLES = 256;
 
 const encoder = new TextEncoder();
 const decoder = new TextDecoder('utf-8', { ignoreBOM: true });
@@ -100,6 +107,7 @@ class Instance {
 class Frame {
   constructor(instance, texts, steps) {
     this.instance = instance;
+    this.given = texts;
     /** At least as many bytes as the texts have. */
     this.size = 0;
     for (const text of texts) {
@@ -128,12 +136,34 @@ class Frame {
   /** Makes room for the result, and an arena, behind the texts. */
   lay(room, arena) {
     this.room = room;
+    this.arena = arena;
     this.free = this.behind;
     this.reserve(room.bytes + room.entries * room.entry + 2 * UNIT + arena);
     this.buffer = this.take(room.bytes);
     this.entries = this.take(room.entries * room.entry);
     this.setWord(this.block, BigInt(this.take(arena)));
     this.setWord(this.block + 8, BigInt(arena - SHORT));
+  }
+
+  /** Repeats a call until its result has room and it has enough memory. Returns whether it has a result. */
+  run(ask) {
+    for (;;) {
+      ask(this.instance.exports, this);
+      const { room, arena, status } = this;
+      if (status === OK) {
+        return true;
+      } else if (status === NO || status === REFUSED) {
+        return false;
+      } else if (status === TOO_SMALL) {
+        const isList = room.entry > 0;
+        const bytes = this.word(this.answer + (isList ? 16 : 8));
+        this.lay({ bytes, entries: isList ? this.word(this.answer + 8) : 0, entry: room.entry }, arena);
+      } else if (status === OUT_OF_MEMORY) {
+        this.lay(room, 2 * arena);
+      } else {
+        throw new Error(`ansi_str: status ${status}`);
+      }
+    }
   }
 
   /** Grows the memory so that it has this many free bytes. */
@@ -186,6 +216,31 @@ class Frame {
     return start === end ? '' : decoder.decode(this.bytes.subarray(this.buffer + start, this.buffer + end));
   }
 
+  /** The stretch of the first text whose pointer and length are here. Of an ASCII text it is a slice. */
+  stretch(at) {
+    const [place, length] = [this.word(at), this.word(at + 8)];
+    const [[first, bytes]] = this.texts;
+    const start = place - Number(first);
+    return Number(bytes) === this.given[0].length
+      ? this.given[0].slice(start, start + length)
+      : decoder.decode(this.bytes.subarray(place, place + length));
+  }
+
+  /** Gives the instance back for the next calls, if no call has failed and its memory is small. */
+  leave() {
+    if (this.instance !== null && this.bytes.length <= KEPT && waiting.length < WAITING) {
+      waiting.push(this.instance);
+    }
+    this.drop();
+  }
+
+  /** Gives up the memory. */
+  drop() {
+    this.instance = null;
+    this.bytes = null;
+    this.view = null;
+  }
+
   /** Returns a function that reads the texts of a list of this many bytes. If these are ASCII, each text is a slice of one string. */
   get each() {
     const length = this.word(this.answer + 16);
@@ -207,8 +262,10 @@ class Frame {
   }
 }
 
-/** The instance of the next call, or null if there is none yet or the last one used much memory. */
-let kept = null;
+/** The instances that wait for calls. */
+const waiting = [];
+
+const taken = () => waiting.pop() ?? new Instance();
 
 /** How large the arena of a call is at first. */
 function arenaOf(texts, room) {
@@ -224,43 +281,19 @@ function arenaOf(texts, room) {
 const named = (error) => (error instanceof RangeError || error.code === 'ERR_STRING_TOO_LONG' ? new OutOfMemoryError() : error);
 
 /**
- * Repeats a call until its result has room and it has enough memory. The first room is what `roomOf` makes of the size of the texts.
- * Returns what `read` makes of the frame, or null if the call has no result.
+ * Makes a call, whose first room is what `roomOf` makes of the size of the texts. Returns what `read` makes of the frame, or null if the
+ * call has no result.
  */
 export function called(texts, steps, roomOf, ask, read) {
   try {
-    kept ??= new Instance();
-    const frame = new Frame(kept, texts, steps);
-    let room = roomOf(frame.size);
-    let arena = arenaOf(texts, room);
-    for (;;) {
-      frame.lay(room, arena);
-      ask(kept.exports, frame);
-      const status = frame.status;
-      if (status === OK) {
-        return read(frame);
-      } else if (status === NO || status === REFUSED) {
-        return null;
-      } else if (status === TOO_SMALL) {
-        const isList = room.entry > 0;
-        room = {
-          bytes: frame.word(frame.answer + (isList ? 16 : 8)),
-          entries: isList ? frame.word(frame.answer + 8) : 0,
-          entry: room.entry,
-        };
-      } else if (status === OUT_OF_MEMORY) {
-        arena *= 2;
-      } else {
-        throw new Error(`ansi_str: status ${status}`);
-      }
-    }
+    const frame = new Frame(taken(), texts, steps);
+    const room = roomOf(frame.size);
+    frame.lay(room, arenaOf(texts, room));
+    const result = frame.run(ask) ? read(frame) : null;
+    frame.leave();
+    return result;
   } catch (error) {
-    kept = null;
     throw named(error);
-  } finally {
-    if (kept !== null && kept.bytes.length > KEPT) {
-      kept = null;
-    }
   }
 }
 
@@ -288,33 +321,62 @@ export function listed(frame) {
   });
 }
 
-/** The items of a walk over texts, each made on demand. Its instance is its own, so its memory stays as it is during other calls. */
-function* walked(texts, begin, next, read) {
-  let frame;
+/** Begins a walk over texts, in an instance of its own, so that its memory stays as it is during other calls. */
+function begun(texts, begin) {
   try {
-    frame = new Frame(new Instance(), texts, []);
+    const frame = new Frame(taken(), texts, []);
+    frame.lay(roomFor(ROOM), PAGE);
+    frame.bytes.fill(0, frame.walk, frame.walk + WALK);
+    // (pointers to the texts, as each walk has them)
+    frame.texts.forEach(([place], index) => frame.setWord(frame.walk + 16 * index, place));
+    frame.run(begin);
+    return frame;
   } catch (error) {
     throw named(error);
   }
-  const { exports } = frame.instance;
-  // (a pointer to a text, as each walk has it)
-  frame.setWord(frame.walk, frame.texts[0][0]);
-  begin(exports, frame);
-  for (;;) {
-    next(exports, frame);
-    if (frame.status !== OK) {
-      return;
-    }
-    yield read(frame);
+}
+
+/** The next item of a walk, or null if none is left. */
+function following(frame, next, read) {
+  try {
+    frame.setWord(frame.item, frame.texts[0][0]);
+    frame.setWord(frame.item + 8, 0n);
+    return frame.run(next) ? read(frame) : null;
+  } catch (error) {
+    frame.drop();
+    throw named(error);
   }
 }
 
-/** The same lines, each searched on demand. */
+/** The items of a walk over texts, each made on demand. */
+function* walked(texts, begin, next, read) {
+  const frame = begun(texts, begin);
+  try {
+    for (let item; (item = following(frame, next, read)) !== null;) {
+      yield item;
+    }
+  } finally {
+    frame.leave();
+  }
+}
+
+/** The lines of `lines` one by one. */
 export function iterLines(text, width) {
   return walked([text],
     (exports, { answer, texts, walk }) => exports.ansi_str_raw_lines_begin(BigInt(answer), ...texts[0], BigInt(width), BigInt(walk)),
     (exports, { answer, walk, item }) => exports.ansi_str_raw_lines_next(BigInt(answer), BigInt(walk), BigInt(item)),
     (frame) => [frame.word(frame.item), frame.word(frame.item + 8)]);
+}
+
+/** What a walk has written, and then the stretch of its text. A part is one of them. */
+const itemText = (frame) => written(frame) + frame.stretch(frame.item);
+
+/** The parts of `split` one by one. */
+export function iterParts(text, pattern) {
+  return walked([text, pattern],
+    (exports, { answer, texts, walk }) => exports.ansi_str_raw_parts_begin(BigInt(answer), ...texts[0], ...texts[1], BigInt(walk)),
+    (exports, frame) => exports.ansi_str_raw_parts_next(...frame.head, BigInt(frame.walk), BigInt(frame.item), ...frame.out),
+    itemText);
 }
 
 // The attributes by their bits, and the colors that codes name by their last digits, and the same bright.
@@ -345,6 +407,9 @@ function styleAt(frame, at) {
   };
 }
 
+/** A block as callers get it. */
+const blockOf = (text, style, start, end) => ({ text, style: { ...style, hasAny: end !== '', start, end } });
+
 export function blocks(text) {
   return called([text], [], roomForList(text, ENTRY),
     (exports, frame) => exports.ansi_str_raw_styled_blocks(...frame.head, ...frame.texts[0], ...frame.out, ...frame.list),
@@ -354,12 +419,40 @@ export function blocks(text) {
       return Array.from({ length: told(frame) }, (_, index) => {
         const at = frame.entries + index * ENTRY;
         const [textStart, textEnd, end] = [0, 8, 16].map((field) => frame.word(at + field));
-        const block = {
-          text: each(textStart, textEnd),
-          style: { ...styleAt(frame, at + 24), hasAny: end > textEnd, start: each(begin, textStart), end: each(textEnd, end) },
-        };
+        const block = blockOf(each(textStart, textEnd), styleAt(frame, at + 24), each(begin, textStart), each(textEnd, end));
         begin = end;
         return block;
       });
     });
+}
+
+/** The sequences that set a style and those that close it. */
+const sequencesOf = (frame, at) => ['ansi_str_raw_style_start', 'ansi_str_raw_style_end'].map((name) => {
+  frame.run((exports) => exports[name](...frame.head, BigInt(at), ...frame.out));
+  return written(frame);
+});
+
+/** The sequences of the styles that walks met last, by the bytes of a style. */
+const known = new Map();
+
+/** The block of a walk. */
+function blockAt(frame) {
+  const text = itemText(frame);
+  const at = frame.item + 16;
+  const bytes = String.fromCharCode(...frame.bytes.subarray(at, at + STYLE));
+  if (!known.has(bytes)) {
+    if (known.size === STYLES) {
+      known.clear();
+    }
+    known.set(bytes, sequencesOf(frame, at));
+  }
+  return blockOf(text, styleAt(frame, at), ...known.get(bytes));
+}
+
+/** The same blocks one by one. */
+export function iterBlocks(text) {
+  return walked([text],
+    (exports, { answer, texts, walk }) => exports.ansi_str_raw_blocks_begin(BigInt(answer), ...texts[0], BigInt(walk)),
+    (exports, frame) => exports.ansi_str_raw_blocks_next(...frame.head, BigInt(frame.walk), BigInt(frame.item), ...frame.out),
+    blockAt);
 }

@@ -6,6 +6,7 @@ import { createRequire } from 'node:module';
 import { tmpdir } from 'node:os';
 import { fileURLToPath } from 'node:url';
 import { test } from 'node:test';
+import { setFlagsFromString } from 'node:v8';
 import { runInNewContext } from 'node:vm';
 import {
   OutOfMemoryError, blocks, columnOf, cut, edit, endsWith, expandTabs, find, fit, fitting, floorCharBoundary, hasAny, isSafe, isWhole, iterBlocks, iterLines, iterSplit, lines, linkAt,
@@ -235,6 +236,144 @@ test('memory is asked for and given back, and lack of it leaves the module fit f
     assert.throws(() => expandTabs('a\t', columns), OutOfMemoryError);
     assert.equal(pad('abc', 5, 'center'), ' abc ');
     assert.equal(sliceColumns('abc', 1, columns), 'bc');
+  }
+});
+
+/** Makes a call while no memory grows by more than `most` pages at once. Returns how many pages were asked for, and which memories grew. */
+function limited(most, call) {
+  const grow = WebAssembly.Memory.prototype.grow;
+  const asked = { pages: 0, memories: new Set() };
+  WebAssembly.Memory.prototype.grow = function (pages) {
+    if (pages > most) {
+      throw new RangeError('no more');
+    }
+    asked.pages += pages;
+    asked.memories.add(this);
+    return grow.call(this, pages);
+  };
+  try {
+    call();
+  } finally {
+    WebAssembly.Memory.prototype.grow = grow;
+  }
+  return asked;
+}
+
+const WALKS = [[(text) => iterSplit(text, ' '), (text) => split(text, ' ')], [iterBlocks, blocks], [(text) => iterLines(text, 9), (text) => lines(text, 9)]];
+
+test('an iterator makes one item at a time, in memory that only the text needs', () => {
+  const long = '\x1b[31mred\x1b[39m and '.repeat(1e5);
+  const pages = Math.ceil(3 * long.length / 65536) + 3;
+  for (const [walkOf, listOf] of WALKS) {
+    const walk = walkOf(long);
+    const first = limited(pages, () => walk.next());
+    assert.ok(first.pages <= pages);
+    let items = 1;
+    limited(-1, () => {
+      for (const _ of walk) {
+        items += 1;
+      }
+    });
+    assert.equal(items, listOf(long).length);
+    assert.ok(items >= 1e5);
+  }
+  for (const listOf of [(text) => split(text, ' '), blocks]) {
+    limited(pages, () => assert.throws(() => listOf(long), OutOfMemoryError));
+  }
+});
+
+test('iterators take turns, also while other calls use memory', () => {
+  const texts = ['\x1b[31mred apple\x1b[39m and \x1b]0;t\x07 \x1b[1mlion', '\x1b[1mé 😀\x1b[K 老 \x1b]8;;u\x07ab c', '', ' ', 'no style'];
+  const long = '\x1b[1m老'.repeat(2e6);
+  for (const [walkOf, listOf] of WALKS) {
+    for (const one of texts) {
+      for (const other of texts) {
+        const [walk, beside, items, more] = [walkOf(one), walkOf(other), [], []];
+        for (let done = 0; done < 2;) {
+          done = 0;
+          for (const [each, into] of [[walk, items], [beside, more]]) {
+            const item = each.next();
+            if (item.done) {
+              done += 1;
+            } else {
+              into.push(item.value);
+            }
+          }
+          assert.equal(width('\x1b[1ma老'), 3);
+        }
+        assert.deepEqual([items, more], [listOf(one), listOf(other)]);
+      }
+    }
+    const walk = walkOf(texts[1]);
+    const items = [walk.next().value];
+    assert.equal(strip(long).length, 2e6);
+    assert.deepEqual([...items, ...walk], listOf(texts[1]));
+  }
+  assert.deepEqual([...iterSplit('a b c', ' ')].map((part) => [...iterSplit(part, '')]), [['', 'a', ''], ['', 'b', ''], ['', 'c', '']]);
+});
+
+/** The memories that a call grows, held weakly. */
+const grownBy = (call) => [...limited(Infinity, call).memories].map((memory) => new WeakRef(memory));
+const isHeld = (reference) => reference.deref() !== undefined;
+
+test('an iterator that ends early gives its memory up, and the next one takes a small one over', async () => {
+  setFlagsFromString('--expose-gc');
+  const gc = runInNewContext('gc');
+  const long = '\x1b[31mred\x1b[39m and '.repeat(1e6);
+  for (const [walkOf] of WALKS) {
+    const walk = walkOf(long);
+    const memories = grownBy(() => walk.next());
+    assert.equal(memories.length, 1);
+    walk.return();
+    for (let turn = 0; turn < 100 && memories.some(isHeld); turn++) {
+      await new Promise((then) => { setTimeout(then, 10); });
+      gc();
+    }
+    assert.ok(!memories.some(isHeld));
+    assert.deepEqual(walk.next(), { value: undefined, done: true });
+  }
+  const { Instance } = WebAssembly;
+  let made = 0;
+  WebAssembly.Instance = function (module) {
+    made += 1;
+    return new Instance(module);
+  };
+  try {
+    for (let turn = 0; turn < 1000; turn++) {
+      for (const [walkOf] of WALKS) {
+        for (const _ of walkOf('lion tiger')) {
+          assert.ok([...walkOf('a b')].length > 0);
+          break;
+        }
+      }
+    }
+  } finally {
+    WebAssembly.Instance = Instance;
+  }
+  assert.ok(made <= 2);
+  const walk = iterSplit('a b', ' ');
+  walk.next();
+  assert.throws(() => walk.throw(new RangeError('of the caller')), { name: 'RangeError', message: 'of the caller' });
+  assert.deepEqual(walk.next(), { value: undefined, done: true });
+});
+
+test('an iterator whose item lacks memory throws, and ends', () => {
+  const many = '\x1b]0;t\x07'.repeat(1e6);
+  const part = `a ${'\x1b[31mb'.repeat(1e6)} \x1b[32mc`;
+  for (const walk of [iterSplit(part, ' '), iterBlocks(`\x1b[1ma${many}b`)]) {
+    walk.next();
+    const other = iterSplit('a b', ' ');
+    other.next();
+    limited(-1, () => assert.throws(() => walk.next(), OutOfMemoryError));
+    assert.deepEqual(walk.next(), { value: undefined, done: true });
+    assert.deepEqual([...other, strip('\x1b[1ma')], ['b', 'a']);
+  }
+  assert.equal([...iterSplit(part, ' ')][1].length, 6e6 + 5);
+  assert.deepEqual([...iterBlocks(`\x1b[1ma${many}b`)], blocks(`\x1b[1ma${many}b`));
+  for (const [walkOf] of WALKS) {
+    const walk = walkOf('a b'.repeat(2e6));
+    limited(1, () => assert.throws(() => walk.next(), OutOfMemoryError));
+    assert.deepEqual(walk.next(), { value: undefined, done: true });
   }
 });
 

@@ -1,17 +1,15 @@
 //! Calls on the display width of a text, and on its links.
 ghost use Rattle.ansi_calls.specs.Columns.{TellsWidth, TellsFitting, TellsColumn, Truncates, Pads};
 ghost use Rattle.ansi_calls.specs.Columns.{Slices, Fits, TruncatesAt, ExpandsTabs, Wraps, WrapsWith};
-ghost use Rattle.ansi_calls.specs.Columns.{WritesLines, BeginsLines, GivesNextLine, WritesLink};
-ghost use Rattle.ansi_columns.specs.LineWalks.{IsLineWalk};
+ghost use Rattle.ansi_calls.specs.Columns.{WritesLines, WritesLink};
 
 use crate::memory::arena_of;
 use ansi_calls::answers::Answer;
 use ansi_calls::columns::{
     column_of, expand_tabs, fit, fitting, link_at, pad, slice, truncate, truncate_with, width,
 };
-use ansi_calls::lines::{LineEntry, lines, lines_begin, lines_next, wrap, wrap_with};
+use ansi_calls::lines::{LineEntry, lines, wrap, wrap_with};
 use ansi_calls::lists::ListAnswer;
-use ansi_columns::line_walks::LineWalk;
 use one_block::{MemoryBlock, OneBlock};
 
 /// The display width of the plain text, in columns.
@@ -181,28 +179,6 @@ pub extern "C" fn ansi_str_raw_lines(
     ensures { WritesLines text.now width result entries.old entries.new }
 {
     lines(text, width, entries)
-}
-
-/// Begins a walk over the lines of the text wrapped at `width` columns.
-#[unsafe(no_mangle)]
-pub extern "C" fn ansi_str_raw_lines_begin<'a>(
-    text: &'a [u8],
-    width: usize,
-    walk: &mut LineWalk<'a>,
-) -> Answer
-    ensures { BeginsLines text.now width result walk.old walk.new }
-{
-    lines_begin(text, width, walk)
-}
-
-/// Takes the next line off a walk: where it begins and ends in the plain text.
-#[unsafe(no_mangle)]
-pub extern "C" fn ansi_str_raw_lines_next(walk: &mut LineWalk<'_>, line: &mut LineEntry) -> Answer
-    requires { IsLineWalk walk.old }
-    ensures walk { IsLineWalk walk.new }
-    ensures next { GivesNextLine walk.old walk.new line.old line.new result }
-{
-    lines_next(walk, line)
 }
 
 /// The address of the hyperlink at a position.

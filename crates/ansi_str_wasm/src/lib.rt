@@ -10,3 +10,4 @@ mod memory;
 pub mod safe;
 pub mod searches;
 pub mod texts;
+pub mod walks;
