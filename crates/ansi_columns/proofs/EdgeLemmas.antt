@@ -1,14 +1,16 @@
 -- Edges between columns: the clusters before one, and the cluster that it divides.
-use Rattle.std.proofs.Common.{◌≡◌, ℕ, ◌+◌, ◌-◌, ◌*◌, ◌<◌, ◌≤◌, ◌⊎◌, inl, inr, true, false, ◌&&◌, List, [], ◌∷◌, ◌++◌, length, drop, flat_map, encode_utf8_all, nat_le, nat_lt, if◌then◌else◌, refl, sym, ◌∙◌, ap, ap₂, subst, arith, zero-add, append_assoc, append-nil, length-append}
+use Rattle.std.proofs.Common.{◌≡◌, ℕ, ◌+◌, ◌-◌, ◌*◌, ◌<◌, ◌≤◌, ◌⊎◌, inl, inr, true, false, not, ◌&&◌, ◌==◌, List, [], ◌∷◌, ◌++◌, length, drop, flat_map, encode_utf8_all, nat_le, nat_lt, if◌then◌else◌, refl, sym, ◌∙◌, ap, ap₂, subst, arith, zero-add, append_assoc, append-nil, length-append}
 use Rattle.std.specs.List.{list_all}
 use Rattle.std.specs.Str.{IsUtf8, IsCharBoundary, chars}
-use Rattle.std.proofs.lemmas.Bool.{and_parts, cases_lt, le-leb, lt-leb, lt-ltb, le-ltb, and_right}
+use Rattle.std.proofs.lemmas.Bool.{and_parts, cases_lt, le-leb, lt-leb, lt-ltb, le-ltb, and_right, ne_eqb}
+use Rattle.std.proofs.lemmas.Bool.Decides.{eqb_tells}
 use borrow.Author.Tests.{ltb-true}
 use Rattle.std.proofs.lemmas.List.Sums.{sum_by-cons, sum_by-append}
 use Rattle.std.proofs.lemmas.Grind.{flat_map-append}
 use Rattle.std.proofs.lemmas.Str.{encodes-chars}
 use Rattle.unicode_width.specs.Width.{str_width}
 use Rattle.ansi_items.specs.Plain.{plain}
+use Rattle.ansi_columns.specs.declared.slices.Edge.{Edge}
 use Rattle.ansi_columns.specs.declared.walks.Walk.{Walk}
 use Rattle.ansi_columns.specs.Columns.{clusters, cluster_width, columns_of, columns, bytes_of}
 use Rattle.ansi_columns.specs.declared.views.View.TheVariants.{Given}
@@ -195,6 +197,54 @@ ended-within n (k ∷ ks) = elim (cases_lt 0 n) [
   | inr none ↦ (let zero_is : n ≡ 0 = omega (arith, none) in omega (arith, ap (λ m. columns_of (ended m (k ∷ ks))) zero_is))
 ]
 
+-- what has begun is at most all
+pub begun-within : (n : ℕ) (ks : List (List ℕ)) → columns_of (begun n ks) ≤ columns_of ks
+begun-within n [] = omega arith
+begun-within n (k ∷ ks) = elim (cases_lt 0 n) [
+  | inl any ↦
+      let w = cluster_width k in
+      omega (arith, ap columns_of (begun-pass n k ks any), sum_by-cons cluster_width k (begun (n - w) ks), sum_by-cons cluster_width k ks, begun-within (n - w) ks)
+  | inr none ↦ (let zero_is : n ≡ 0 = omega (arith, none) in omega (arith, ap (λ m. columns_of (begun m (k ∷ ks))) zero_is))
+]
+
+-- the first column of a text is before an edge, or its cluster is divided
+any-column : (n : ℕ) (ks : List (List ℕ)) → 0 < n → 0 < columns_of ks → (0 < columns_of (ended n ks)) ⊎ (n < columns_of (begun n ks))
+any-column n [] some any = absurd (omega (arith, any))
+any-column n (k ∷ ks) some any = elim (cases_lt n (cluster_width k)) [
+  | inl wide ↦ inr (omega (arith, wide, ap columns_of (begun-divided n k ks some wide), sum_by-cons cluster_width k []))
+  | inr fits ↦ elim (cases_lt 0 (cluster_width k)) [
+    | inl width ↦ inl (omega (arith, width, ap columns_of (ended-pass n k ks some fits), sum_by-cons cluster_width k (ended (n - cluster_width k) ks)))
+    | inr none ↦
+        let same : n - cluster_width k ≡ n = omega (arith, none) in
+        elim (any-column n ks some (omega (arith, any, none, sum_by-cons cluster_width k ks))) [
+          | inl e ↦ inl (omega (arith, e, ap columns_of (ended-pass n k ks some fits), sum_by-cons cluster_width k (ended (n - cluster_width k) ks), ap (λ m. columns_of (ended m ks)) same))
+          | inr b ↦ inr (omega (arith, b, ap columns_of (begun-pass n k ks some), sum_by-cons cluster_width k (begun (n - cluster_width k) ks), ap (λ m. columns_of (begun m ks)) same))
+        ]
+  ]
+]
+
+-- an edge tells whether the text has a column after the place that it is counted from
+pub column-before : {t : List ℕ} {here n : ℕ} {edge : Edge} → IsEdge t here n edge → 0 < n → nat_lt 0 (columns_of (clusters_from t here)) ≡ not (edge.before == n && edge.after == 0)
+column-before {t} {here} {n} {edge} is some = elim (cases_lt 0 (columns_of ks)) [
+  | inl any ↦ lt-ltb 0 (columns_of ks) any ∙ sym (with_any (any-column n ks some any))
+  | inr none ↦ le-ltb 0 (columns_of ks) none ∙ sym (with_none none)
+]
+  where
+    ks : List (List ℕ)
+    ks = clusters_from t here
+
+    with_any : (0 < columns_of (ended n ks)) ⊎ (n < columns_of (begun n ks)) → not (edge.before == n && edge.after == 0) ≡ true
+    with_any (inl e) = ap (λ b. not (b && edge.after == 0)) (ne_eqb edge.before n (λ same. absurd (omega (arith, same, e, is.before, some))))
+    with_any (inr b) = ap not (and_right (edge.before == n) (edge.after == 0) (ne_eqb edge.after 0 (λ same. absurd (omega (arith, same, b, is.after)))))
+
+    with_none : columns_of ks ≤ 0 → not (edge.before == n && edge.after == 0) ≡ false
+    with_none none =
+        let sum : columns_of ks ≡ columns_of (ended n ks) + columns_of (clusters_from t edge.start.position) = ap columns_of is.rest ∙ sum_by-append cluster_width (ended n ks) (clusters_from t edge.start.position) in
+        let full : edge.before ≡ n = omega (arith, none, sum, is.before) in
+        let whole : edge.after ≡ 0 = omega (arith, none, begun-within n ks, is.after) in
+        let first : (edge.before == n) ≡ true = elim (eqb_tells edge.before n) [ inl tells ↦ tells.0 | inr tells ↦ absurd (tells.1 full) ] in
+        ap₂ (λ a b. not (a && b)) first (ap (λ m. m == 0) whole)
+
 -- a text that has a column after an edge has more columns than there are before it
 pub ended-rest : (n : ℕ) (ks rest : List (List ℕ)) → ks ≡ ended n ks ++ rest → 0 < columns_of rest → n < columns_of ks
 ended-rest n [] rest split some = absurd (omega (arith, some, ap columns_of split))
@@ -267,16 +317,6 @@ begun-whole n (k ∷ ks) within = elim (cases_lt 0 n) [
       ap bytes_of passed ∙ bytes_of-append (k ∷ []) (begun (n - w) ks) ∙ ap (λ m. bytes_of (k ∷ []) + m) (begun-whole (n - w) ks (omega (arith, within, wide)))
       ∙ sym (ap bytes_of (ended-pass n k ks any fits) ∙ bytes_of-append (k ∷ []) (ended (n - w) ks))
   | inr none ↦ (let zero_is : n ≡ 0 = omega (arith, none) in ap (λ m. bytes_of (begun m (k ∷ ks))) zero_is ∙ sym (ap (λ m. bytes_of (ended m (k ∷ ks))) zero_is))
-]
-
--- what has begun is at most all
-pub begun-within : (n : ℕ) (ks : List (List ℕ)) → columns_of (begun n ks) ≤ columns_of ks
-begun-within n [] = omega arith
-begun-within n (k ∷ ks) = elim (cases_lt 0 n) [
-  | inl any ↦
-      let w = cluster_width k in
-      omega (arith, ap columns_of (begun-pass n k ks any), sum_by-cons cluster_width k (begun (n - w) ks), sum_by-cons cluster_width k ks, begun-within (n - w) ks)
-  | inr none ↦ (let zero_is : n ≡ 0 = omega (arith, none) in omega (arith, ap (λ m. columns_of (begun m (k ∷ ks))) zero_is))
 ]
 
 -- a byte has at most two columns

@@ -111,7 +111,7 @@ pub(crate) fn plain_cell(text: &str, width: usize) -> Option<PlainFront>
 pub(crate) fn plain_runs(text: &str, width: usize) -> Option<PlainFront>
     ensures { IfSome result (IsFront text.now width) }
 {
-    if LONGEST < text.len() || begins_other_sequence(text) {
+    if LONGEST < text.len() || begins_otherwise(text) {
         return None;
     }
     let mut style = styles::plain_style();
@@ -146,10 +146,11 @@ pub(crate) fn plain_runs(text: &str, width: usize) -> Option<PlainFront>
     })
 }
 
-/// Whether a text begins with an ESC that begins no control sequence, as a link or a title does.
+/// Whether a text begins with a character that isn't ASCII, or with an ESC that begins no control
+/// sequence, as a link or a title does.
 #[inline(always)]
-fn begins_other_sequence(text: &str) -> bool {
-    matches!(text.as_bytes(), [0x1B, first, ..] if *first != b'[')
+fn begins_otherwise(text: &str) -> bool {
+    matches!(text.as_bytes(), [0x80..=0xFF, ..] | [0x1B, 0..=0x5A | 0x5C..=0xFF, ..])
 }
 
 /// The longest known prefix of a text that fits, after what `plain_runs` returned for `width`.

@@ -127,10 +127,11 @@ fn parts_of(text: &str, start: usize, end: usize) -> Option<Parts<'_>>
     }
     let columns = end - start;
     let first = edge_after(text, Walk::start(text), start);
-    if !has_column(text, first.start) {
+    let further = first.before + columns;
+    let last = edge_after(text, first.start, further);
+    if last.has_none_before(further) {
         return None;
     }
-    let last = edge_after(text, first.start, first.before + columns);
     let from = opened_from(start, first.start);
     let (to, after) = closed_at(text, first.end.position, last);
     let opened = pen_after(&text[..from]);
@@ -178,6 +179,18 @@ struct Edge {
     before: usize,
     /// How many columns are between the edge and `end`.
     after: usize,
+}
+
+impl Edge {
+    ghost use Rattle.std.specs.Prelude.{◌≡◌, ◌==◌, ◌&&◌};
+
+    /// Whether no column is between a walk and this edge, which is `columns` after it. The text has no
+    /// column there then.
+    fn has_none_before(self, columns: usize) -> bool
+        ensures { result ≡ (self.before == columns && self.after == 0) }
+    {
+        self.before == columns && self.after == 0
+    }
 }
 
 /// The edge that is this many columns after a walk.

@@ -229,6 +229,7 @@ fn piece_stays(kind: Kind, piece: &str, place: Place) -> bool
 }
 
 /// Whether each character of a run is allowed where it is, and stays in a place.
+#[inline(always)]
 fn run_stays(run: &str, place: Place) -> bool
     ensures { result ≡ run_stays place (chars run.now) }
 {
