@@ -51,7 +51,7 @@ def metadata():
 
 
 def _platform(module, settings):
-    """The tag of the systems that a module is for: this one alone, or with the setting `manylinux` each with the glibc that it needs."""
+    """The tags of the systems that a module is for: this one alone, or with the setting `manylinux` each with the glibc that it needs."""
     if not (settings or {}).get("manylinux"):
         return re.sub(r"[-.]", "_", sysconfig.get_platform())
     newest = max((int(minor) for minor in re.findall(rb"GLIBC_2\.(\d+)", module)), default=0)
@@ -59,6 +59,9 @@ def _platform(module, settings):
     processor = {62: "x86_64", 183: "aarch64"}[module[18]]
     # (older ones have a name of their own, which older pips know too)
     names = "manylinux_2_{0}_{1}" if newest > 17 else "manylinux_2_17_{1}.manylinux2014_{1}"
+    # (one that is linked with no C library takes that of its Python, which may be musl)
+    if b"libc.so" not in module:
+        names += ".musllinux_1_1_{1}"
     return names.format(newest, processor)
 
 
