@@ -84,26 +84,24 @@ fn is_utf8_by_16(bytes: &[u8]) -> bool
     let mut rest = bytes;
     while 16 < rest.len() {
         if !begins_ascii_16(rest) {
-            return is_rest_utf8(rest, bytes.len());
+            return is_rest_utf8(rest);
         }
         rest = &rest[16..];
     }
     begins_ascii_16(&bytes[bytes.len() - 16..]) || is_short_utf8(rest)
 }
 
-/// Whether the bytes are UTF-8, for the rest of `len` bytes that doesn't begin with 16 of ASCII. ASCII
-/// at its end isn't tested again, and often few bytes are left.
+/// Whether the bytes are UTF-8, for bytes that don't begin with 16 of ASCII. Of 32 and more, ASCII at
+/// the end isn't tested again. `simdutf8` takes as long on few bytes as on 64.
 #[inline(always)]
-fn is_rest_utf8(rest: &[u8], len: usize) -> bool
+fn is_rest_utf8(rest: &[u8]) -> bool
     ensures { IsTrue result ↔ IsUtf8 rest.now }
 {
-    // `simdutf8` takes as long on 1 byte as on 64.
-    let few = if len < 64 { 32 } else { 16 };
-    if rest.len() < few {
+    if rest.len() < 32 {
         return is_short_utf8(rest);
     }
     let front = before_ascii_16(rest);
-    if front.len() < few || is_sparse(front) {
+    if front.len() < 32 || is_sparse(front) {
         is_short_utf8(front)
     } else {
         simdutf8::is_utf8(front)
