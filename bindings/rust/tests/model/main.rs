@@ -45,7 +45,7 @@ fn drawn_texts<'p>(pieces: &'p [&'p str]) -> impl Iterator<Item = String> + 'p {
 
 /// How often an answer was compared, so that a loop that compares nothing can't pass.
 #[derive(Default)]
-struct Tally(usize);
+pub struct Tally(usize);
 
 impl Tally {
     fn expect<T: PartialEq + Debug>(&mut self, got: T, want: T, name: impl Debug) {
