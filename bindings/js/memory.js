@@ -387,28 +387,29 @@ const COLORS = ['black', 'red', 'green', 'yellow', 'blue', 'magenta', 'cyan', 'w
   'brightBlack', 'brightRed', 'brightGreen', 'brightYellow', 'brightBlue', 'brightMagenta', 'brightCyan', 'brightWhite'];
 const [NO_COLOR, NAMED, FIXED] = [0, 1, 2];
 
-function colorAt(frame, at) {
-  const [kind, first, second, third] = frame.bytes.subarray(at, at + 4);
+function colorAt({ bytes }, at) {
+  const [kind, first] = [bytes[at], bytes[at + 1]];
   if (kind === NO_COLOR) {
     return null;
   }
   if (kind === NAMED) {
     return COLORS[first % 10 + (first >= 90 ? 8 : 0)];
   }
-  return kind === FIXED ? first : { red: first, green: second, blue: third };
+  return kind === FIXED ? first : { red: first, green: bytes[at + 2], blue: bytes[at + 3] };
 }
 
-function styleAt(frame, at) {
+/** The style whose bytes are here, with the sequences that set it and those that close it. */
+function styleAt(frame, at, start, end) {
   const attributes = frame.view.getUint32(at, true);
   return {
     attributes: ATTRIBUTES.filter((_, bit) => attributes & (1 << bit)),
     foreground: colorAt(frame, at + 4),
     background: colorAt(frame, at + 8),
+    hasAny: end !== '',
+    start,
+    end,
   };
 }
-
-/** A block as callers get it. */
-const blockOf = (text, style, start, end) => ({ text, style: { ...style, hasAny: end !== '', start, end } });
 
 export function blocks(text) {
   return called([text], [], roomForList(text, ENTRY),
@@ -419,7 +420,7 @@ export function blocks(text) {
       return Array.from({ length: told(frame) }, (_, index) => {
         const at = frame.entries + index * ENTRY;
         const [textStart, textEnd, end] = [0, 8, 16].map((field) => frame.word(at + field));
-        const block = blockOf(each(textStart, textEnd), styleAt(frame, at + 24), each(begin, textStart), each(textEnd, end));
+        const block = { text: each(textStart, textEnd), style: styleAt(frame, at + 24, each(begin, textStart), each(textEnd, end)) };
         begin = end;
         return block;
       });
@@ -446,7 +447,8 @@ function blockAt(frame) {
     }
     known.set(bytes, sequencesOf(frame, at));
   }
-  return blockOf(text, styleAt(frame, at), ...known.get(bytes));
+  const [start, end] = known.get(bytes);
+  return { text, style: styleAt(frame, at, start, end) };
 }
 
 /** The same blocks one by one. */
