@@ -274,6 +274,10 @@ export function stripSuffix(text, pattern) {
   return edit(text, [['suffix', pattern]]);
 }
 
+export function part(text, pattern, index) {
+  return edit(text, [['part', pattern, index]]);
+}
+
 export function startsWith(text, pattern) {
   return raw.startsWith(textOf('text', text), textOf('pattern', pattern));
 }

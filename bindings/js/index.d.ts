@@ -55,6 +55,9 @@ export function find(text: string, pattern: string): number;
 /** The parts of the text between the matches of the pattern, each in its styles. */
 export function split(text: string, pattern: string): string[];
 
+/** The part of an index, counted from 0, among those that `split` returns, or null if there is no such part. */
+export function part(text: string, pattern: string, index: number): string | null;
+
 /** An iterator over what `split` returns, one part at a time. */
 export function iterSplit(text: string, pattern: string): IterableIterator<string>;
 

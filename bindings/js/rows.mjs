@@ -65,8 +65,10 @@ function answersOf(ansi, call, found, want, text, more) {
     case 'left':
     case 'right':
       return [[ansi.edit(text, [[call, first]]), found], [ansi.splitAt(text, first)[call === 'left' ? 0 : 1], want]];
-    case 'part':
-      return [[ansi.edit(text, [['part', first, Math.min(Number(second), Number.MAX_SAFE_INTEGER)]]), found]];
+    case 'part': {
+      const index = Math.min(Number(second), Number.MAX_SAFE_INTEGER);
+      return [[ansi.part(text, first, index), found], [ansi.edit(text, [['part', first, index]]), found]];
+    }
     case 'strip_prefix':
       return [[ansi.edit(text, [['prefix', first]]), found], [ansi.stripPrefix(text, first), found]];
     case 'strip_suffix':

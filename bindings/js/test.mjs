@@ -10,7 +10,7 @@ import { setFlagsFromString } from 'node:v8';
 import { runInNewContext } from 'node:vm';
 import {
   OutOfMemoryError, blocks, columnOf, cut, edit, endsWith, expandTabs, find, fit, fitting, floorCharBoundary, hasAny, isSafe, isWhole, iterBlocks, iterLines, iterSplit, lines, linkAt,
-  pad, sanitize, sliceColumns, split, splitAt, startsWith, strip, stripPrefix, stripSuffix, trim, truncate, width, wrap,
+  pad, part, sanitize, sliceColumns, split, splitAt, startsWith, strip, stripPrefix, stripSuffix, trim, truncate, width, wrap,
 } from './index.js';
 import * as ansiStr from './index.js';
 import { called, written } from './memory.js';
@@ -113,14 +113,14 @@ test('a position past the end is the end, and an end below its start is refused,
 test('what is no text or no position is refused', () => {
   const calls = [...Object.values(ansiStr).filter((call) => call !== OutOfMemoryError), (text) => find('', text), (text) => split('', text),
     (text) => edit('', [['suffix', text]]), (text) => truncate('', 1, text), (text) => truncate('', 1, { tail: text }), (text) => fit('', 1, 'left', text),
-    ...[stripPrefix, stripSuffix, startsWith, endsWith, iterSplit].map((call) => (text) => call('', text))];
+    ...[stripPrefix, stripSuffix, startsWith, endsWith, part, iterSplit].map((call) => (text) => call('', text))];
   for (const call of calls) {
     assert.throws(() => call('a\ud800'), /lone surrogate/);
     assert.throws(() => call(null), /must be a string/);
   }
   assert.throws(() => cut('abc', -1), RangeError);
   assert.throws(() => cut('abc', 1.5), TypeError);
-  for (const call of [columnOf, linkAt, floorCharBoundary]) {
+  for (const call of [columnOf, linkAt, floorCharBoundary, (text, index) => part(text, 'b', index)]) {
     assert.throws(() => call('abc', -1), RangeError);
     assert.throws(() => call('abc', '1'), TypeError);
   }
