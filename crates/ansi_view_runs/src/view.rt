@@ -7,11 +7,11 @@ ghost use Rattle.std.specs.Str.Lossy.{utf8_lossy};
 ghost use Rattle.ansi_items.specs.Plain.{plain};
 ghost use Rattle.ansi_style.specs.States.{rendition_of};
 ghost use Rattle.ansi_style.specs.Written.{start};
-ghost use Rattle.ansi_safe.specs.Links.{IsClosed, ending};
+ghost use Rattle.ansi_safe.specs.Links.{ending};
 ghost use Rattle.ansi_safe.specs.Safe.{is_safe};
 ghost use Rattle.ansi_view_runs.specs.Jobs.{work_of};
 ghost use Rattle.ansi_view_runs.specs.LineViews.{line_of};
-ghost use Rattle.ansi_view_runs.specs.Views.{decoded, opening_of, opening_after, viewed, body};
+ghost use Rattle.ansi_view_runs.specs.Views.{decoded, opening_of, opening_after, viewed};
 ghost use Rattle.ansi_view_runs.specs.Views.{shown};
 ghost use Rattle.ansi_safe.specs.Sanitized.{cleaned, sanitized};
 
@@ -21,7 +21,7 @@ use crate::lines::Line;
 use ansi_safe::links::{LONGEST_ENDING, Pen, pen_after};
 use ansi_safe::policy::{Links, Policy};
 use ansi_safe::safe::{ending_if_safe, pen_if_safe, push_cleaned};
-use ansi_safe::utf8::{Utf8Error, from_utf8};
+use ansi_safe::utf8::Utf8Error;
 use ansi_slice::slice::strip_in;
 use ansi_style::styles;
 use std::alloc::{AllocError, Allocator};
@@ -46,26 +46,11 @@ pub struct Job<'w, A: Allocator> {
     pub edits: Vec<ColumnEdit<'w>, A>,
 }
 
-/// The bytes that a line becomes, with its end. A line may become several.
+/// The bytes that a line becomes, with its end. A line may become several. `text` is what its text
+/// is decoded to.
 ///
 /// `opening` is what is open before the line, and then what is open after it. `Err` means out of
 /// memory; `opening` may then be anything.
-pub fn view_line<A: Allocator + Copy>(
-    alloc: A,
-    job: &Job<'_, A>,
-    opening: &mut String<A>,
-    line: &Line<'_>,
-) -> Result<String<A>, AllocError>
-    ensures bytes { IfOk result (λ s.
-        string_bytes s ≡ viewed (work_of job.now) (string_bytes opening.old) (line_of line.now)) }
-    ensures opening { OnOk result (string_bytes opening.new
-        ≡ opening_after job.now.view (string_bytes opening.old) (line_of line.now)) }
-{
-    let text = decode(alloc, job.view, line.text)?;
-    view_decoded(alloc, job, opening, line, text.as_str())
-}
-
-/// Like `view_line`, of a line whose bytes are decoded already.
 pub(crate) fn view_decoded<A: Allocator + Copy>(
     alloc: A,
     job: &Job<'_, A>,
@@ -87,7 +72,7 @@ pub(crate) fn view_decoded<A: Allocator + Copy>(
     edit_line(alloc, job.edits.as_slice(), CowStr::Owned(text), line.end)
 }
 
-// The text of a line whose bytes are decoded, made safe. `opening` is as for `view_line`.
+// The text of a line whose bytes are decoded, made safe. `opening` is as for `view_decoded`.
 fn show_line<A: Allocator + Copy>(
     alloc: A,
     view: View,
@@ -135,29 +120,8 @@ fn is_safe_and_closed(text: &str, links: Links) -> bool
     }
 }
 
-/// What the text of a line becomes: a safe text that ends what it leaves open.
-///
-/// `opening` is what is open before it, and then what it leaves open. `Err` means out of memory;
-/// `opening` may then be anything.
-pub fn view_text<A: Allocator + Copy>(
-    alloc: A,
-    view: View,
-    opening: &mut String<A>,
-    text: &[u8],
-) -> Result<String<A>, AllocError>
-    ensures bytes { IfOk result (λ s. string_bytes s
-        ≡ sanitized view.policy (body view (string_bytes opening.old) text.now)) }
-    ensures safe { IfOk result (λ s. IsTrue (is_safe view.policy.links (string_bytes s))) }
-    ensures closed { IfOk result (λ s. IsClosed (string_bytes s)) }
-    ensures opening { OnOk result (string_bytes opening.new
-        ≡ opening_of (cleaned view.policy (body view (string_bytes opening.old) text.now))) }
-{
-    let text = decode(alloc, view, text)?;
-    make_safe(alloc, view.policy, opening, text.as_str())
-}
-
-// Like `view_text`, of a text whose bytes are decoded. If something is open before it, what opens
-// that and the text are joined. If that is safe, the result is that with what ends it.
+// What a text becomes: a safe text that ends what it leaves open. If something is open before it, what
+// opens that and the text are joined. If that is safe, the result is that with what ends it.
 fn make_safe<A: Allocator + Copy>(
     alloc: A,
     policy: Policy,
@@ -166,8 +130,6 @@ fn make_safe<A: Allocator + Copy>(
 ) -> Result<String<A>, AllocError>
     ensures bytes { IfOk result (λ s.
         string_bytes s ≡ sanitized policy (string_bytes opening.old ++ text.now)) }
-    ensures safe { IfOk result (λ s. IsTrue (is_safe policy.links (string_bytes s))) }
-    ensures closed { IfOk result (λ s. IsClosed (string_bytes s)) }
     ensures opening { OnOk result (string_bytes opening.new
         ≡ opening_of (cleaned policy (string_bytes opening.old ++ text.now))) }
 {
@@ -205,8 +167,6 @@ fn end_clean<A: Allocator + Copy>(
     text: &str,
 ) -> Result<String<A>, AllocError>
     ensures bytes { IfOk result (λ s. string_bytes s ≡ sanitized policy text.now) }
-    ensures safe { IfOk result (λ s. IsTrue (is_safe policy.links (string_bytes s))) }
-    ensures closed { IfOk result (λ s. IsClosed (string_bytes s)) }
     ensures opening { OnOk result (string_bytes opening.new
         ≡ opening_of (cleaned policy text.now)) }
 {
@@ -225,18 +185,6 @@ fn clean<A: Allocator>(alloc: A, policy: Policy, text: &str) -> Result<String<A>
     let mut made = String::with_capacity(alloc, text.len() + LONGEST_ENDING)?;
     push_cleaned(&mut made, text, policy)?;
     Ok(made)
-}
-
-/// The text of bytes, without its sequences if the view is plain. Bytes that aren't UTF-8 become
-/// U+FFFD. It borrows from bytes that are UTF-8 if nothing is stripped. `Err` means out of memory.
-pub(crate) fn decode<'t, A: Allocator + Copy>(
-    alloc: A,
-    view: View,
-    bytes: &'t [u8],
-) -> Result<CowStr<'t, A>, AllocError>
-    ensures { IfOk result (λ c. cow_str_bytes c ≡ decoded view bytes.now) }
-{
-    decode_tested(alloc, view, bytes, from_utf8(bytes))
 }
 
 /// The text of bytes that `from_utf8` has tested, with what it returned, if decoding leaves these
@@ -259,7 +207,9 @@ pub(crate) fn as_decoded<'t>(
     }
 }
 
-/// Like `decode`, of bytes that `from_utf8` has tested, with what it returned.
+/// The text of bytes that `from_utf8` has tested, with what it returned. Bytes that aren't UTF-8
+/// become U+FFFD, and a plain view strips the sequences. It borrows from bytes that are UTF-8 if
+/// nothing is stripped. `Err` means out of memory.
 pub(crate) fn decode_tested<'t, A: Allocator + Copy>(
     alloc: A,
     view: View,

@@ -1,5 +1,5 @@
 //! The examples of the docs of `ansi_safe`, in the same words.
-use ansi_safe::cells::{cell_char, cell_of, paragraph_of};
+use ansi_safe::cells::{cell_and_ending, cell_char, cell_of, paragraph_of};
 use ansi_safe::safe::{is_safe, pen_if_safe, sanitize};
 use ansi_safe::utf8::from_utf8;
 use ansi_safe::{AnsiSafe, Links, Policy, Rest};
@@ -82,6 +82,13 @@ fn sanitize_example(rt: HostRuntime) -> Result<(), Fail> {
 fn cell_of_example(rt: HostRuntime) -> Result<(), Fail> {
     let cell = cell_of(rt.alloc(), "\x1b[1ma\tb\r\n\x07")?;
     assert!(rt; cell.as_str() == "\x1b[1ma b ");
+    Ok(())
+}
+
+#[test]
+fn cell_and_ending_example(rt: HostRuntime) -> Result<(), Fail> {
+    let (cell, ending) = cell_and_ending(rt.alloc(), "\x1b[1ma\tb")?;
+    assert!(rt; cell.as_str() == "\x1b[1ma b" && !ending.is_empty());
     Ok(())
 }
 

@@ -1,13 +1,9 @@
-use Rattle.std.proofs.Common.{◌≡◌, ◌++◌, true, [], string_bytes, rules, refl, sym, ◌∙◌, ap, subst}
+use Rattle.std.proofs.Common.{◌≡◌, ◌++◌, true, [], string_bytes, rules, refl, sym, ◌∙◌, ap}
 use Rattle.std.specs.Prelude.{string_len}
-use Rattle.std.specs.Str.{IsUtf8}
 use Rattle.std.proofs.lemmas.Bool.{eqb-true}
 use Rattle.std.proofs.lemmas.List.{nil_from_length}
-use Rattle.std.proofs.lemmas.Str.{IsUtf8-append}
-use Rattle.ansi_safe.specs.Links.{IsClosed}
 use Rattle.ansi_safe.specs.Safe.{is_safe}
 use Rattle.ansi_safe.proofs.MadeLemmas.{cleaned-safe, sanitized-safe}
-use Rattle.ansi_safe.proofs.SafeLemmas.{sanitized-is_safe, sanitized-is_closed}
 use Rattle.ansi_view_runs.proofs.view.make_safe.Goals as goal
 
 -- nothing is open before it
@@ -26,18 +22,6 @@ returns-in_ok-push_to-in-Some-clause-bytes g c =
     let body : string_bytes c.in_ok-body.body ≡ t = c.in_ok-body.ensures ∙ ap (λ u. u ++ c.args.text.now) c.as_str.ensures.value in
     let safe : is_safe policy.links t ≡ true = ap (is_safe policy.links) (sym (c.as_str-2.ensures.value ∙ body)) ∙ sym c.in-Some.ensures.none in
     rw (c.in_ok-push_to-in-Some.ensures.bytes, c.ending-ending.ensures.link_end, c.in-Some.ensures.link, c.ending-ending.ensures.style, c.in-Some.ensures.style, c.as_str-2.ensures.value, body) (sym (sanitized-safe policy t safe))
-
-pub returns-in_ok-push_to-in-Some-clause-safe : goal.returns-in_ok-push_to-in-Some-clause-safe
-returns-in_ok-push_to-in-Some-clause-safe g c =
-    let t = string_bytes c.args.opening.now ++ c.args.text.now in
-    let utf8 : IsUtf8 t = subst (λ u. IsUtf8 (u ++ c.args.text.now)) c.as_str.ensures.value (IsUtf8-append _ _ c.as_str.utf8 c.utf8.text) in
-    ap (is_safe c.args.policy.links) (returns-in_ok-push_to-in-Some-clause-bytes g c) ∙ sanitized-is_safe c.args.policy t utf8
-
-pub returns-in_ok-push_to-in-Some-clause-closed : goal.returns-in_ok-push_to-in-Some-clause-closed
-returns-in_ok-push_to-in-Some-clause-closed g c =
-    let t = string_bytes c.args.opening.now ++ c.args.text.now in
-    let utf8 : IsUtf8 t = subst (λ u. IsUtf8 (u ++ c.args.text.now)) c.as_str.ensures.value (IsUtf8-append _ _ c.as_str.utf8 c.utf8.text) in
-    subst IsClosed (sym (returns-in_ok-push_to-in-Some-clause-bytes g c)) (sanitized-is_closed c.args.policy t utf8)
 
 pub returns-in_ok-push_to-in-Some-clause-opening : goal.returns-in_ok-push_to-in-Some-clause-opening
 returns-in_ok-push_to-in-Some-clause-opening g c =
