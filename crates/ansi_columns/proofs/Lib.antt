@@ -35,6 +35,7 @@ pub mod PenLemmas
 pub mod LentLemmas
 pub mod IndentLemmas
 pub mod ShownLawLemmas
+pub mod OneLineLemmas
 pub mod WrapLawLemmas
 pub mod LinkedLawLemmas
 pub mod StyledLawLemmas
@@ -44,6 +45,7 @@ pub mod TabLemmas
 pub mod EdgeLemmas
 pub mod SliceLemmas
 pub mod SliceLawLemmas
+pub mod CleanShownLemmas
 pub mod SeamLemmas
 pub mod ScreenLemmas
 pub mod PartLemmas

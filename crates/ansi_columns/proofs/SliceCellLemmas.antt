@@ -19,6 +19,8 @@ use Rattle.ansi_columns.proofs.SliceScreenLemmas.{slice-screen}
 use Rattle.ansi_columns.proofs.EdgeLemmas.{begun-within, columns-bound}
 use Rattle.ansi_columns.proofs.SliceLemmas.{sliced-top, blanks-top}
 use Rattle.ansi_columns.proofs.SliceLawLemmas.{sliced-whole, sliced-closed}
+use Rattle.ansi_columns.proofs.OneLineLemmas.{IsClean}
+use Rattle.ansi_columns.proofs.CleanShownLemmas.{clean-sliced_cell}
 
 stretch-past : (t : List ℕ) (a b : ℕ) → columns (plain t) ≤ b → is_stretch t a b ≡ is_stretch t a (columns (plain t))
 stretch-past t a b past =
@@ -70,6 +72,10 @@ module _ {t : List ℕ} {end : Option ℕ} {u : List ℕ} {b : ℕ} (a : ℕ) (c
 
   pub cell-closed : (w : List ℕ) → w ≡ sliced_up_to u a b → IsClosed w
   cell-closed w same = subst IsClosed (sym (same ∙ cell-sliced)) (sliced-closed (cell t) a (unwrap_or end (columns (plain (cell t)))) (IsUtf8-cell t cut.utf8) (whole-cell t cut.utf8))
+
+  -- it is safe and on one line
+  pub cell-clean : (w : List ℕ) → w ≡ sliced_up_to u a b → IsClean w
+  cell-clean w same = subst IsClean (sym (same ∙ cell-sliced)) (clean-sliced_cell t a (unwrap_or end (columns (plain (cell t)))) cut.utf8)
 
   pub cell-borrowed : {borrowed : Type 0} → cell t ≡ t → (borrowed ↔ IsTrue (is_stretch u a b)) → borrowed ↔ ((cell t ≡ t) × IsTrue (is_sliced_stretch t a end))
   cell-borrowed stays iff = (λ is. (stays, subst IsTrue (cell-stretch stays) (iff.0 is)), λ all. iff.1 (subst IsTrue (sym (cell-stretch stays)) all.1))

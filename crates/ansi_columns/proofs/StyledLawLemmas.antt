@@ -16,11 +16,11 @@ use Rattle.ansi_style.proofs.StyledLemmas.{style_through, style_through-append, 
 use Rattle.ansi_slice.specs.Cut.{interleaved}
 use Rattle.ansi_slice.proofs.CutLemmas.{marks_up_to-marks_past}
 use Rattle.ansi_slice.proofs.ShownLemmas.{interleaved_pieces, interleaved_pieces_stand, spelled-interleaved_pieces, style_through-interleaved_pieces, styled_through-interleaved_pieces}
-use Rattle.ansi_safe.specs.Links.{link_end, link_at, pen_close}
+use Rattle.ansi_safe.specs.Links.{link_end, link_at, pen_close, IsClosed}
 use Rattle.ansi_safe.proofs.EndingLemmas.{link_end-open, link_end-shut}
 use Rattle.ansi_columns.specs.declared.shown.Alignment.{Alignment}
 use Rattle.ansi_columns.specs.Shown.{has_tail, truncated_end, truncated, missing, before_text, blanks, padded, without_style}
-use Rattle.ansi_columns.proofs.LinkedLawLemmas.{blanks_are_plain}
+use Rattle.ansi_columns.proofs.LinkedLawLemmas.{blanks_are_plain, padded-closed}
 
 -- Only what is known of the style before pieces counts.
 pub style_through-alike : (s t : Rendition) (ps : List Piece) → known s ≡ known t → known (style_through s ps) ≡ known (style_through t ps)
@@ -144,3 +144,7 @@ padded-styled t width alignment whole = styled-pieces (padded t width alignment)
 
 pub padded-residue : (t : List ℕ) (width : ℕ) (alignment : Alignment) → IsTrue (is_whole t) → residue (padded t width alignment) ≡ plain_style
 padded-residue t width alignment whole = ap known (style_after_from-pieces plain_style (padded t width alignment)) ∙ (IsStyled-padded t width alignment whole).after
+
+-- so no style and no link is open at its end
+pub padded-is_closed : (t : List ℕ) (width : ℕ) (alignment : Alignment) → IsTrue (is_whole t) → IsClosed (padded t width alignment)
+padded-is_closed t width alignment whole = record { style = padded-residue t width alignment whole; link = padded-closed t width alignment whole }

@@ -5,6 +5,7 @@ pub mod BreakStates
 pub mod Views
 pub mod Walks
 pub mod Reverse
+pub mod OneLine
 pub mod Shown
 pub mod Fitted
 pub mod Sides

@@ -12,6 +12,9 @@ ghost use Rattle.ansi_columns.specs.Addresses.{address_at};
 ghost use Rattle.ansi_columns.specs.Columns.{columns, column_of, ShowsUpTo};
 ghost use Rattle.ansi_safe.specs.Cells.{cell, paragraph};
 ghost use Rattle.ansi_safe.specs.Links.{link_at, longest_link_end, IsClosed};
+ghost use Rattle.ansi_safe.specs.Safe.{is_safe};
+ghost use Rattle.ansi_safe.specs.declared.policy.Links.TheVariants.{Keep};
+ghost use Rattle.ansi_columns.specs.OneLine.{is_one_line};
 ghost use Rattle.ansi_columns.specs.Shown.{truncated_ending, truncated, KeptStays, missing, closing, padded};
 ghost use Rattle.ansi_columns.specs.Fitted.{fitted};
 ghost use Rattle.ansi_columns.specs.Sides.{is_cut_at_end, truncated_at};
@@ -144,9 +147,9 @@ pub trait AnsiColumns: AnsiStr {
 
     /// The text padded with blanks to `width` columns for display.
     ///
-    /// What is shown is the text of a cell, as for `ansi_truncate`. The link and then the style
-    /// still open at the end of the text are closed before the blanks. A text of `width` or more
-    /// columns gets no blanks.
+    /// What is shown is the text of a cell, as for `ansi_truncate`: the result is on one line and
+    /// safe. The link and then the style still open at the end of the text are closed before the
+    /// blanks. A text of `width` or more columns gets no blanks.
     ///
     /// Returns a borrow, and doesn't allocate, if nothing of the text has to be changed, no blank
     /// is needed and nothing is open. Otherwise the result is at most as long as the text, plus one
@@ -165,6 +168,9 @@ pub trait AnsiColumns: AnsiStr {
     ) -> Result<CowStr<'_>, AllocError>
         ensures bytes { IfOk result (λ c.
             cow_str_bytes c ≡ padded (cell (Self.text self.now)) width alignment) }
+        ensures safe { IfOk result (λ c. IsTrue (is_safe Keep (cow_str_bytes c))) }
+        ensures one_line { IfOk result (λ c. IsTrue (is_one_line (cow_str_bytes c))) }
+        ensures closed { IfOk result (λ c. IsClosed (cow_str_bytes c)) }
         ensures borrowed { IfOk result (λ c. IsBorrowedStr c
             ↔ ((cell (Self.text self.now) ≡ Self.text self.now)
             × (missing (cell (Self.text self.now)) width ≡ 0)
@@ -310,13 +316,15 @@ pub trait AnsiColumns: AnsiStr {
     ) -> Result<CowStr<'_>, AllocError>
         ensures bytes { IfOk result (λ c. cow_str_bytes c
             ≡ sliced (cell (Self.text self.now)) (R.start columns) (R.end columns)) }
-        ensures borrowed { IfOk result (λ c. IsBorrowedStr c
-            ↔ ((cell (Self.text self.now) ≡ Self.text self.now) × IsTrue
-            (is_sliced_stretch (Self.text self.now) (R.start columns) (R.end columns)))) }
-        ensures whole { IfOk result (λ c. IsTrue (is_whole (cow_str_bytes c))) }
+        ensures safe { IfOk result (λ c. IsTrue (is_safe Keep (cow_str_bytes c))) }
+        ensures one_line { IfOk result (λ c. IsTrue (is_one_line (cow_str_bytes c))) }
         ensures closed { IfOk result (λ c. IsClosed (cow_str_bytes c)) }
         ensures screen { IfOk result (λ c. screen (cow_str_bytes c) ≡ sliced_screen
             (R.start columns) (R.end columns) (screen (cell (Self.text self.now)))) }
+        ensures whole { IfOk result (λ c. IsTrue (is_whole (cow_str_bytes c))) }
+        ensures borrowed { IfOk result (λ c. IsBorrowedStr c
+            ↔ ((cell (Self.text self.now) ≡ Self.text self.now) × IsTrue
+            (is_sliced_stretch (Self.text self.now) (R.start columns) (R.end columns)))) }
         ensures len { IfOk result (λ c. length (cow_str_bytes c)
             ≤ length (cell (Self.text self.now))
             + sliced_blanks (cell (Self.text self.now)) (R.start columns) (R.end columns)

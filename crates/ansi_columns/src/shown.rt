@@ -12,7 +12,10 @@ ghost use Rattle.ansi_items.specs.Plain.{plain};
 ghost use Rattle.ansi_style.specs.States.{rendition_of};
 ghost use Rattle.ansi_style.specs.Written.{close, longest_close};
 ghost use Rattle.ansi_safe.specs.Cells.{cell};
-ghost use Rattle.ansi_safe.specs.Links.{longest_link_end};
+ghost use Rattle.ansi_safe.specs.Links.{longest_link_end, IsClosed};
+ghost use Rattle.ansi_safe.specs.Safe.{is_safe};
+ghost use Rattle.ansi_safe.specs.declared.policy.Links.TheVariants.{Keep};
+ghost use Rattle.ansi_columns.specs.OneLine.{is_one_line};
 ghost use Rattle.ansi_columns.specs.Columns.{columns};
 ghost use Rattle.ansi_columns.specs.Shown.{has_tail, truncated_width, truncated_ending};
 ghost use Rattle.ansi_columns.specs.Shown.{truncated, KeptStays};
@@ -331,6 +334,9 @@ pub fn pad<'t, A: Allocator + Copy>(
     alignment: Alignment,
 ) -> Result<CowStr<'t, A>, AllocError>
     ensures bytes { IfOk result (λ c. cow_str_bytes c ≡ padded (cell text.now) width alignment) }
+    ensures safe { IfOk result (λ c. IsTrue (is_safe Keep (cow_str_bytes c))) }
+    ensures one_line { IfOk result (λ c. IsTrue (is_one_line (cow_str_bytes c))) }
+    ensures closed { IfOk result (λ c. IsClosed (cow_str_bytes c)) }
     ensures borrowed { IfOk result (λ c. IsBorrowedStr c ↔ ((cell text.now ≡ text.now)
         × (missing (cell text.now) width ≡ 0) × (closing (cell text.now) ≡ []))) }
     ensures len { IfOk result (λ c. length (cow_str_bytes c)

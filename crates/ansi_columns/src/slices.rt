@@ -8,6 +8,9 @@ ghost use Rattle.ansi_items.specs.Plain.{plain, is_whole};
 ghost use Rattle.ansi_style.specs.Written.{longest_start_and_close};
 ghost use Rattle.ansi_safe.specs.Cells.{cell};
 ghost use Rattle.ansi_safe.specs.Links.{longest_link_end, IsClosed};
+ghost use Rattle.ansi_safe.specs.Safe.{is_safe};
+ghost use Rattle.ansi_safe.specs.declared.policy.Links.TheVariants.{Keep};
+ghost use Rattle.ansi_columns.specs.OneLine.{is_one_line};
 ghost use Rattle.ansi_columns.specs.Columns.{columns_of};
 ghost use Rattle.ansi_columns.specs.Slices.{has_no_column, is_stretch, slice_blanks};
 ghost use Rattle.ansi_columns.specs.Slices.{is_sliced_stretch, sliced_blanks, sliced_up_to, sliced};
@@ -39,12 +42,14 @@ pub fn slice<'t, A: Allocator + Copy>(
     end: Option<usize>,
 ) -> Result<CowStr<'t, A>, AllocError>
     ensures bytes { IfOk result (λ c. cow_str_bytes c ≡ sliced (cell text.now) start end) }
-    ensures borrowed { IfOk result (λ c. IsBorrowedStr c ↔ ((cell text.now ≡ text.now)
-        × IsTrue (is_sliced_stretch text.now start end))) }
-    ensures whole { IfOk result (λ c. IsTrue (is_whole (cow_str_bytes c))) }
+    ensures safe { IfOk result (λ c. IsTrue (is_safe Keep (cow_str_bytes c))) }
+    ensures one_line { IfOk result (λ c. IsTrue (is_one_line (cow_str_bytes c))) }
     ensures closed { IfOk result (λ c. IsClosed (cow_str_bytes c)) }
     ensures screen { IfOk result (λ c.
         screen (cow_str_bytes c) ≡ sliced_screen start end (screen (cell text.now))) }
+    ensures whole { IfOk result (λ c. IsTrue (is_whole (cow_str_bytes c))) }
+    ensures borrowed { IfOk result (λ c. IsBorrowedStr c ↔ ((cell text.now ≡ text.now)
+        × IsTrue (is_sliced_stretch text.now start end))) }
     ensures len { IfOk result (λ c. length (cow_str_bytes c) ≤ length (cell text.now)
         + sliced_blanks (cell text.now) start end + longest_start_and_close + longest_link_end) }
     ensures takes_no_memory { (cell text.now ≡ text.now)

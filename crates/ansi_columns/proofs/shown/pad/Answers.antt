@@ -2,8 +2,12 @@ use Rattle.std.proofs.Common.{◌≡◌, ℕ, List, [], length, IfOk, refl, sym,
 use Rattle.std.specs.Cow.{cow_str_bytes}
 use Rattle.std.proofs.lemmas.Result.{IfOk-weaker}
 use Rattle.ansi_safe.specs.Cells.{cell}
-use Rattle.ansi_safe.proofs.CellTextLemmas.{length-cell}
+use Rattle.ansi_safe.specs.Links.{IsClosed}
 use Rattle.ansi_columns.specs.Shown.{missing, closing, padded}
+use Rattle.ansi_safe.proofs.CellTextLemmas.{length-cell, whole-cell}
+use Rattle.ansi_columns.proofs.CleanShownLemmas.{clean-padded_cell}
+use Rattle.ansi_columns.proofs.OneLineLemmas.{IsClean, clean-safe, clean-one_line}
+use Rattle.ansi_columns.proofs.StyledLawLemmas.{padded-is_closed}
 use Rattle.ansi_columns.proofs.PlainCellLemmas.{plain-padded}
 use Rattle.ansi_columns.proofs.ShownLemmas.{ending-closing, length-padded}
 use Rattle.ansi_columns.proofs.shown.pad.Goals as goal
@@ -13,6 +17,15 @@ use Rattle.ansi_columns.proofs.shown.pad.Goals as goal
 pub returns-in-Some-clause-bytes : goal.returns-in-Some-clause-bytes
 returns-in-Some-clause-bytes g c =
     IfOk-weaker c.write_shown.result _ _ (λ s written. written ∙ (plain-padded c.in-Some.ensures).bytes c.args.alignment) c.write_shown.ensures.bytes
+
+pub returns-in-Some-clause-safe : goal.returns-in-Some-clause-safe
+returns-in-Some-clause-safe g c = IfOk-weaker c.write_shown.result _ _ (λ s is. clean-safe (subst IsClean (sym is) (clean-padded_cell c.args.text.now c.args.width c.args.alignment c.utf8.text))) (returns-in-Some-clause-bytes g c)
+
+pub returns-in-Some-clause-one_line : goal.returns-in-Some-clause-one_line
+returns-in-Some-clause-one_line g c = IfOk-weaker c.write_shown.result _ _ (λ s is. clean-one_line (subst IsClean (sym is) (clean-padded_cell c.args.text.now c.args.width c.args.alignment c.utf8.text))) (returns-in-Some-clause-bytes g c)
+
+pub returns-in-Some-clause-closed : goal.returns-in-Some-clause-closed
+returns-in-Some-clause-closed g c = IfOk-weaker c.write_shown.result _ _ (λ s is. subst IsClosed (sym is) (padded-is_closed (cell c.args.text.now) c.args.width c.args.alignment (whole-cell c.args.text.now c.utf8.text))) (returns-in-Some-clause-bytes g c)
 
 pub returns-in-Some-clause-borrowed : goal.returns-in-Some-clause-borrowed
 returns-in-Some-clause-borrowed g c =
@@ -43,6 +56,15 @@ pad_cell-requires g c =
 pub returns-clause-bytes : goal.returns-clause-bytes
 returns-clause-bytes g c =
     subst (λ t. IfOk c.pad_cell.result (λ s. cow_str_bytes s ≡ padded t c.args.width c.args.alignment)) c.in_ok-cell.ensures.bytes c.pad_cell.ensures.bytes
+
+pub returns-clause-safe : goal.returns-clause-safe
+returns-clause-safe g c = IfOk-weaker c.pad_cell.result _ _ (λ s is. clean-safe (subst IsClean (sym is) (clean-padded_cell c.args.text.now c.args.width c.args.alignment c.utf8.text))) (returns-clause-bytes g c)
+
+pub returns-clause-one_line : goal.returns-clause-one_line
+returns-clause-one_line g c = IfOk-weaker c.pad_cell.result _ _ (λ s is. clean-one_line (subst IsClean (sym is) (clean-padded_cell c.args.text.now c.args.width c.args.alignment c.utf8.text))) (returns-clause-bytes g c)
+
+pub returns-clause-closed : goal.returns-clause-closed
+returns-clause-closed g c = IfOk-weaker c.pad_cell.result _ _ (λ s is. subst IsClosed (sym is) (padded-is_closed (cell c.args.text.now) c.args.width c.args.alignment (whole-cell c.args.text.now c.utf8.text))) (returns-clause-bytes g c)
 
 pub returns-clause-borrowed : goal.returns-clause-borrowed
 returns-clause-borrowed g c =

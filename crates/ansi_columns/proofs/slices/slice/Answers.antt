@@ -1,7 +1,8 @@
 use Rattle.std.proofs.Common.{IsTrue, length, sym, ◌∙◌, ap, subst, arith, rules}
 use Rattle.std.specs.Cow.{cow_str_bytes, IsBorrowedStr}
 use Rattle.std.proofs.lemmas.Result.{IfOk-weaker}
-use Rattle.ansi_columns.proofs.SliceCellLemmas.{IsCellUpTo, cell-sliced, cell-blanks, cell-stretch, cell-whole, cell-closed, cell-screen, cell-borrowed}
+use Rattle.ansi_columns.proofs.OneLineLemmas.{clean-safe, clean-one_line}
+use Rattle.ansi_columns.proofs.SliceCellLemmas.{IsCellUpTo, cell-sliced, cell-blanks, cell-stretch, cell-whole, cell-closed, cell-clean, cell-screen, cell-borrowed}
 use Rattle.ansi_columns.proofs.slices.slice.Goals as goal
 
 -- the cell is borrowed, so it is the text
@@ -24,6 +25,18 @@ returns-in-Borrowed-clause-whole g c =
     let text = sym (ap cow_str_bytes c.in-Borrowed.is) ∙ c.in_ok-cell.ensures.bytes in
     let cut : IsCellUpTo c.args.text.now c.args.end c.in-Borrowed.cell.now c.unwrap_or-end.result = record { utf8 = c.utf8.text; size = search rules; text = text; up_to = c.unwrap_or-end.ensures } in
     IfOk-weaker c.slice_up_to.result _ _ (λ s same. cell-whole c.args.start cut (cow_str_bytes s) same) c.slice_up_to.ensures.bytes
+
+pub returns-in-Borrowed-clause-safe : goal.returns-in-Borrowed-clause-safe
+returns-in-Borrowed-clause-safe g c =
+    let text = sym (ap cow_str_bytes c.in-Borrowed.is) ∙ c.in_ok-cell.ensures.bytes in
+    let cut : IsCellUpTo c.args.text.now c.args.end c.in-Borrowed.cell.now c.unwrap_or-end.result = record { utf8 = c.utf8.text; size = search rules; text = text; up_to = c.unwrap_or-end.ensures } in
+    IfOk-weaker c.slice_up_to.result _ _ (λ s same. clean-safe (cell-clean c.args.start cut (cow_str_bytes s) same)) c.slice_up_to.ensures.bytes
+
+pub returns-in-Borrowed-clause-one_line : goal.returns-in-Borrowed-clause-one_line
+returns-in-Borrowed-clause-one_line g c =
+    let text = sym (ap cow_str_bytes c.in-Borrowed.is) ∙ c.in_ok-cell.ensures.bytes in
+    let cut : IsCellUpTo c.args.text.now c.args.end c.in-Borrowed.cell.now c.unwrap_or-end.result = record { utf8 = c.utf8.text; size = search rules; text = text; up_to = c.unwrap_or-end.ensures } in
+    IfOk-weaker c.slice_up_to.result _ _ (λ s same. clean-one_line (cell-clean c.args.start cut (cow_str_bytes s) same)) c.slice_up_to.ensures.bytes
 
 pub returns-in-Borrowed-clause-closed : goal.returns-in-Borrowed-clause-closed
 returns-in-Borrowed-clause-closed g c =
@@ -62,6 +75,18 @@ returns-in_ok-into_owned-in-Owned-clause-whole g c =
     let text = c.as_str.ensures.value ∙ sym (ap cow_str_bytes c.in-Owned.is) ∙ c.in_ok-cell.ensures.bytes in
     let cut : IsCellUpTo c.args.text.now c.args.end c.as_str.result.now c.unwrap_or-end.result = record { utf8 = c.utf8.text; size = search rules; text = text; up_to = c.unwrap_or-end.ensures } in
     cell-whole c.args.start cut _ (c.in_ok-into_owned-in-Owned.ensures.ok ∙ c.in_ok-slice-in-Owned.ensures.bytes)
+
+pub returns-in_ok-into_owned-in-Owned-clause-safe : goal.returns-in_ok-into_owned-in-Owned-clause-safe
+returns-in_ok-into_owned-in-Owned-clause-safe g c =
+    let text = c.as_str.ensures.value ∙ sym (ap cow_str_bytes c.in-Owned.is) ∙ c.in_ok-cell.ensures.bytes in
+    let cut : IsCellUpTo c.args.text.now c.args.end c.as_str.result.now c.unwrap_or-end.result = record { utf8 = c.utf8.text; size = search rules; text = text; up_to = c.unwrap_or-end.ensures } in
+    clean-safe (cell-clean c.args.start cut _ (c.in_ok-into_owned-in-Owned.ensures.ok ∙ c.in_ok-slice-in-Owned.ensures.bytes))
+
+pub returns-in_ok-into_owned-in-Owned-clause-one_line : goal.returns-in_ok-into_owned-in-Owned-clause-one_line
+returns-in_ok-into_owned-in-Owned-clause-one_line g c =
+    let text = c.as_str.ensures.value ∙ sym (ap cow_str_bytes c.in-Owned.is) ∙ c.in_ok-cell.ensures.bytes in
+    let cut : IsCellUpTo c.args.text.now c.args.end c.as_str.result.now c.unwrap_or-end.result = record { utf8 = c.utf8.text; size = search rules; text = text; up_to = c.unwrap_or-end.ensures } in
+    clean-one_line (cell-clean c.args.start cut _ (c.in_ok-into_owned-in-Owned.ensures.ok ∙ c.in_ok-slice-in-Owned.ensures.bytes))
 
 pub returns-in_ok-into_owned-in-Owned-clause-closed : goal.returns-in_ok-into_owned-in-Owned-clause-closed
 returns-in_ok-into_owned-in-Owned-clause-closed g c =
