@@ -19,8 +19,8 @@ use Rattle.ansi_columns.specs.Addresses.{linked}
 use Rattle.ansi_columns.specs.Indents.{shown_indent, text_width, after_indent, indented, wrapped_with}
 use Rattle.ansi_columns.specs.Wrapped.{CarriedPart, wrapped}
 use Rattle.ansi_columns.proofs.IndentLemmas.{padded-closed_alone}
-use Rattle.ansi_columns.proofs.LinkedLawLemmas.{IsLinked, IsLinked-append, linked-pieces, padded-whole, padded-closed}
-use Rattle.ansi_columns.proofs.StyledLawLemmas.{style_through-alike, padded-residue}
+use Rattle.ansi_columns.proofs.LinkedLawLemmas.{IsLinked, IsLinked-append, linked-pieces, padded-whole}
+use Rattle.ansi_columns.proofs.StyledLawLemmas.{style_through-alike, padded-is_closed}
 use Rattle.ansi_columns.proofs.WrapLawLemmas.{wrapped_are_whole, wrapped_are_closed, wrapped_end_links}
 
 -- a text is whole, and closed
@@ -39,7 +39,7 @@ styles-shut u v first second =
 linked-shut : (t : List ℕ) → IsShut t → IsLinked [] t (linked t) []
 linked-shut t shut = record { whole = shut.whole; bytes = sym (linked-pieces t); after = sym (link_of-pieces (pieces_of t)) ∙ shut.closed.link }
 
-shut-append : (u v : List ℕ) → IsShut u → IsShut v → IsShut (u ++ v)
+pub shut-append : (u v : List ℕ) → IsShut u → IsShut v → IsShut (u ++ v)
 shut-append u v first second = record {
   whole = is_whole-append u v first.whole second.whole;
   closed = record {
@@ -48,15 +48,15 @@ shut-append u v first second = record {
   };
 }
 
-shut-indent : (t : List ℕ) → IsUtf8 t → IsShut (shown_indent t)
+pub shut-indent : (t : List ℕ) → IsUtf8 t → IsShut (shown_indent t)
 shut-indent t utf8 =
     let whole = whole-cell t utf8 in
     subst IsShut (padded-closed_alone (cell t)) (record {
       whole = padded-whole (cell t) 0 Left whole;
-      closed = record { style = padded-residue (cell t) 0 Left whole; link = padded-closed (cell t) 0 Left whole };
+      closed = padded-is_closed (cell t) 0 Left whole;
     })
 
-abbrev ShutLine : CarriedPart → Type 0
+abbrev pub ShutLine : CarriedPart → Type 0
 ShutLine l = IsShut l.bytes
 
 shut-indented : (first later : List ℕ) (ls : List CarriedPart) → IsShut (shown_indent first) → IsShut (shown_indent later) → All ShutLine ls → All ShutLine (indented first later ls)
@@ -64,11 +64,15 @@ shut-indented first later [] begun others all = all
 shut-indented first later (l ∷ ls) begun others all =
     All-cons ShutLine (after_indent first l) (indented later later ls) (shut-append (shown_indent first) l.bytes begun (All-head ShutLine l ls all)) (shut-indented later later ls others others (All-tail ShutLine l ls all))
 
--- each line of a text wrapped with indents
+-- each line of a wrapped text
+pub wrapped_are_shut : (t : List ℕ) (width : ℕ) → IsTrue (is_safe Keep (paragraph t)) → All ShutLine (wrapped t width)
+wrapped_are_shut t width safe = λ k d lt. record {
+  whole = wrapped_are_whole t width safe k d lt;
+  closed = record { style = wrapped_are_closed t width safe k d lt; link = wrapped_end_links t width safe k d lt };
+}
+
+-- and of one wrapped with indents
 pub shut-wrapped_with : (t first later : List ℕ) (width : ℕ) → IsTrue (is_safe Keep (paragraph t)) → IsUtf8 first → IsUtf8 later → All (λ (l : CarriedPart). IsShut l.bytes) (wrapped_with t width first later)
 shut-wrapped_with t first later width safe first_utf8 later_utf8 =
     let room = text_width width first later in
-    shut-indented first later (wrapped t room) (shut-indent first first_utf8) (shut-indent later later_utf8) (λ k d lt. record {
-      whole = wrapped_are_whole t room safe k d lt;
-      closed = record { style = wrapped_are_closed t room safe k d lt; link = wrapped_end_links t room safe k d lt };
-    })
+    shut-indented first later (wrapped t room) (shut-indent first first_utf8) (shut-indent later later_utf8) (wrapped_are_shut t room safe)

@@ -51,17 +51,17 @@ left_out-grow x k (n, m, inr (inl one)) = (n, m + k, inr (inl (ends-grow x (code
 left_out-grow x k (n, m, inr (inr two)) = (n, m + k, inr (inr (ends-grow x (codes "\r\n") n m k two)))
 
 -- a text between two others
-slice_between : (x front middle rest : List ℕ) (i j : ℕ) → x ≡ (front ++ middle) ++ rest → i ≡ length front → j ≡ i + length middle → slice_range x i j ≡ middle
+pub slice_between : (x front middle rest : List ℕ) (i j : ℕ) → x ≡ (front ++ middle) ++ rest → i ≡ length front → j ≡ i + length middle → slice_range x i j ≡ middle
 slice_between x front middle rest i j all start end =
     let size : j - i ≡ length middle = omega arith in
     ap (λ n. take n (drop i x)) size
     ∙ ap (take (length middle)) (ap (drop i) (all ∙ append_assoc front middle rest) ∙ drop_at front (middle ++ rest) i (sym start))
     ∙ take_at middle rest (length middle) refl
 
-abbrev text_of : List (List ℕ) → List ℕ
+abbrev pub text_of : List (List ℕ) → List ℕ
 text_of cs = flat_map encode_utf8_all cs
 
-text_of-append : (xs ys : List (List ℕ)) → text_of (xs ++ ys) ≡ text_of xs ++ text_of ys
+pub text_of-append : (xs ys : List (List ℕ)) → text_of (xs ++ ys) ≡ text_of xs ++ text_of ys
 text_of-append xs ys = flat_map-append encode_utf8_all xs ys
 
 blanks-text : (g : List (List ℕ)) → list_all is_blank g ≡ true → AreBlanks (text_of g)

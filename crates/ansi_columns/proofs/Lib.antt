@@ -47,6 +47,8 @@ pub mod SliceLemmas
 pub mod SliceLawLemmas
 pub mod CleanShownLemmas
 pub mod SeamLemmas
+pub mod LinePrintsLemmas
+pub mod CleanLineLemmas
 pub mod ScreenLemmas
 pub mod PartLemmas
 pub mod SliceScreenLemmas

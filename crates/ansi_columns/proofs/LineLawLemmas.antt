@@ -1,6 +1,6 @@
 -- What is so of every line: it is an interval of the clusters, fits, and begins and ends at good positions.
-use Rattle.std.proofs.Common.{◌≡◌, ℕ, ◌+◌, max, inl, inr, true, List, [], ◌∷◌, ◌++◌, map, flat_map, encode_utf8, encode_utf8_all, All, refl, sym, ◌∙◌, ap, subst, arith, append_assoc}
-use Rattle.std.specs.List.{AllByRecursion}
+use Rattle.std.proofs.Common.{◌≡◌, ℕ, ◌+◌, max, inl, inr, true, not, IsTrue, List, [], ◌∷◌, ◌++◌, map, flat_map, encode_utf8, encode_utf8_all, All, refl, sym, ◌∙◌, ap, subst, arith, append_assoc}
+use Rattle.std.specs.List.{AllByRecursion, list_all}
 use Rattle.std.specs.Str.{IsUtf8, IsCharBoundary}
 use Rattle.std.proofs.lemmas.Bool.{and_from, le-leb}
 use Rattle.std.specs.List.{concat}
@@ -12,7 +12,7 @@ use Rattle.unicode_segmentation.specs.Segments.{segments}
 use Rattle.unicode_segmentation.proofs.SegmentsLemmas.{concat-segments}
 use Rattle.ansi_search.proofs.PositionLemmas.{boundary_is_good}
 use Rattle.ansi_columns.specs.Columns.{clusters, bytes_of}
-use Rattle.ansi_columns.specs.Lines.{lines, IsLine, IsGoodLine}
+use Rattle.ansi_columns.specs.Lines.{is_line_end, lines, IsLine, IsGoodLine}
 use Rattle.ansi_columns.specs.FirstFit.{left_out, AreFirstFit}
 use Rattle.ansi_columns.proofs.ColumnLemmas.{bytes_of-append}
 use Rattle.ansi_columns.proofs.FirstFitLemmas.{after_line, lines-first_fit}
@@ -52,8 +52,12 @@ good_line x width line utf8 is =
 append_assoc-four : (b l v a : List (List ℕ)) → b ++ (l ++ v ++ a) ≡ b ++ l ++ v ++ a
 append_assoc-four b l v a = simp append_assoc
 
+-- a line, none of whose clusters is a line end
+abbrev pub IsLineAlone : List ℕ → ℕ → ℕ × ℕ → Type 0
+IsLineAlone x width line = (is : IsLine x width line) × IsTrue (list_all (λ c. not (is_line_end c)) is.shown)
+
 -- the lines of first fit from a place on are, if `before` are the clusters up to there
-first_fit_are : (x : List ℕ) (width : ℕ) (ls : List (ℕ × ℕ)) (place : ℕ) (before cs : List (List ℕ)) → clusters x ≡ before ++ cs → place ≡ bytes_of before → AreFirstFit (max width 1) place cs ls → AllByRecursion (IsLine x width) ls
+first_fit_are : (x : List ℕ) (width : ℕ) (ls : List (ℕ × ℕ)) (place : ℕ) (before cs : List (List ℕ)) → clusters x ≡ before ++ cs → place ≡ bytes_of before → AreFirstFit (max width 1) place cs ls → AllByRecursion (IsLineAlone x width) ls
 first_fit_are x width [] place before cs all at are = tt
 first_fit_are x width (line ∷ ls) place before cs all at are =
     let shown = are.0 in
@@ -64,16 +68,19 @@ first_fit_are x width (line ∷ ls) place before cs all at are =
     let whole : clusters x ≡ up_to ++ after = all ∙ ap (λ u. before ++ u) first.all ∙ append_assoc-four before left shown after in
     let start : line.0 ≡ bytes_of (before ++ left) = omega (arith, first.start, at, bytes_of-append before left) in
     let end : line.1 ≡ bytes_of up_to = omega (arith, first.end, start, bytes_of-append (before ++ left) shown) in (
-      record { before = before ++ left; shown = shown; after = after; all = whole; start = start; end = end; fits = first.filled.fits },
+      (record { before = before ++ left; shown = shown; after = after; all = whole; start = start; end = end; fits = first.filled.fits }, first.filled.on_line),
       elim (after_line (max width 1) line.1 after ls are.3) [
-        | inl none ↦ subst (AllByRecursion (IsLine x width)) (sym none.0) tt
+        | inl none ↦ subst (AllByRecursion (IsLineAlone x width)) (sym none.0) tt
         | inr more ↦ first_fit_are x width ls (line.1 + bytes_of more.0) (up_to ++ more.0) more.1 (whole ∙ ap (λ u. up_to ++ u) more.2 ∙ sym (append_assoc up_to more.0 more.1)) (omega (arith, end, bytes_of-append up_to more.0)) more.3
       ],
     )
 
 -- every line of a text is one
+pub lines_are_alone : (x : List ℕ) (width : ℕ) → AllByRecursion (IsLineAlone x width) (lines width x)
+lines_are_alone x width = first_fit_are x width (lines width x) 0 [] (clusters x) refl refl (lines-first_fit width x)
+
 pub lines_are : (x : List ℕ) (width : ℕ) → All (IsLine x width) (lines width x)
-lines_are x width = All-from_recursion (IsLine x width) (lines width x) (first_fit_are x width (lines width x) 0 [] (clusters x) refl refl (lines-first_fit width x))
+lines_are x width = All-weaker (IsLineAlone x width) (IsLine x width) (λ line is. is.0) (lines width x) (All-from_recursion (IsLineAlone x width) (lines width x) (lines_are_alone x width))
 
 -- it may be cut from the text
 pub lines_are_good : (x : List ℕ) (width : ℕ) → IsUtf8 x → All (IsGoodLine x) (lines width x)

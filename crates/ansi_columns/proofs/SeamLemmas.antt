@@ -162,7 +162,7 @@ break-is : (c : ℕ) (before : List ℕ) (d : ℕ) (cs : List ℕ) → is_graphe
 unfolding is_grapheme_break
 break-is c before d cs = refl
 
-pair : (c : ℕ) (before : List ℕ) (d : ℕ) (cs : List ℕ) → is_grapheme_break true (c ∷ before) (d ∷ cs) ≡ false
+pub pair : (c : ℕ) (before : List ℕ) (d : ℕ) (cs : List ℕ) → is_grapheme_break true (c ∷ before) (d ∷ cs) ≡ false
     → ((c ≡ 0x0D) × (d ≡ 0x0A)) ⊎ ((is_control (grapheme_cluster_break c) ≡ false) × (is_control (grapheme_cluster_break d) ≡ false))
 pair c before d cs joins = elim (no_break_by_pair (grapheme_cluster_break c) (grapheme_cluster_break d) (third (c ∷ before) d) (sym (break-is c before d cs) ∙ joins)) [
   | inl both ↦ inl (cr-is c both.0, lf-is d both.1)
@@ -182,11 +182,11 @@ not_true : (b : Bool) → not b ≡ true → b ≡ false
 not_true true e = absurd (cc)
 not_true false e = refl
 
-feed-control : is_control (grapheme_cluster_break 0x0A) ≡ true
+pub feed-control : is_control (grapheme_cluster_break 0x0A) ≡ true
 unfolding ucd_breaks
 feed-control = refl
 
-return-control : is_control (grapheme_cluster_break 0x0D) ≡ true
+pub return-control : is_control (grapheme_cluster_break 0x0D) ≡ true
 unfolding ucd_breaks
 return-control = refl
 
@@ -203,7 +203,7 @@ abbrev pub ArePlain : List (List ℕ) → Type 0
 ArePlain [] = Unit
 ArePlain (k ∷ ks) = IsPlainCluster k × ArePlain ks
 
-clusters-head : (before : List ℕ) (c : ℕ) (cs : List ℕ) → (k : List ℕ) × (ks : List (List ℕ)) × (clusters_after before (c ∷ cs) ≡ (c ∷ k) ∷ ks)
+pub clusters-head : (before : List ℕ) (c : ℕ) (cs : List ℕ) → (k : List ℕ) × (ks : List (List ℕ)) × (clusters_after before (c ∷ cs) ≡ (c ∷ k) ∷ ks)
 clusters-head before c cs = elim (cases_Bool (is_grapheme_break true (c ∷ before) cs)) [
   | inl breaks ↦ ([], clusters_after (c ∷ before) cs, cluster-alone before c cs breaks)
   | inr joins ↦ front (clusters_after (c ∷ before) cs) (cluster-joins before c cs joins)

@@ -1,6 +1,6 @@
 //! The calls on display width: for any text, and for `&str`.
 ghost use Rattle.std.specs.Prelude.{◌≡◌, ◌↔◌, ◌+◌, ◌*◌, ◌≤◌, ◌⊎◌, Some, None, [], length, IsTrue};
-ghost use Rattle.std.specs.Prelude.{IsFalse, IsNone, IsOk, IfOk};
+ghost use Rattle.std.specs.Prelude.{All, IsFalse, IsNone, IsOk, IfOk};
 ghost use Rattle.std.specs.List.{list_all};
 ghost use Rattle.std.specs.Option.{option_map};
 ghost use Rattle.std.specs.Cow.{cow_str_bytes, IsBorrowedStr};
@@ -360,6 +360,9 @@ pub trait AnsiColumns: AnsiStr {
     final fn ansi_wrap(&self, alloc: Global, width: usize) -> AnsiWrap<'_>
         ensures first_fit { IsWrapped (Self.text self.now) width result }
         ensures lines { result ≡ wrapped (Self.text self.now) width }
+        ensures safe { All (λ l. IsTrue (is_safe Keep l.bytes)) result }
+        ensures one_line { All (λ l. IsTrue (is_one_line l.bytes)) result }
+        ensures closed { All (λ l. IsClosed l.bytes) result }
         ensures takes_no_memory { paragraph (Self.text self.now) ≡ Self.text self.now →
             IsFalse (has_escape (Self.text self.now)) →
             IsTrue (list_all (λ l. l.borrowed) result) }
@@ -392,6 +395,9 @@ pub trait AnsiColumns: AnsiStr {
             to.now.first_indent.now to.now.indent.now result }
         ensures lines { result ≡ wrapped_with (Self.text self.now) to.now.width
             to.now.first_indent.now to.now.indent.now }
+        ensures safe { All (λ l. IsTrue (is_safe Keep l.bytes)) result }
+        ensures one_line { All (λ l. IsTrue (is_one_line l.bytes)) result }
+        ensures closed { All (λ l. IsClosed l.bytes) result }
         ensures takes_no_memory { paragraph (Self.text self.now) ≡ Self.text self.now →
             IsFalse (has_escape (Self.text self.now)) → to.now.first_indent.now ≡ [] →
             to.now.indent.now ≡ [] → IsTrue (list_all (λ l. l.borrowed) result) }

@@ -1,12 +1,18 @@
 //! Wrapped lines with an indent before each.
-ghost use Rattle.std.specs.Prelude.{◌≡◌, ◌+◌, ◌++◌, [], IsTrue, IsFalse, IsOk, IfOk, OnOk, OnErr};
+ghost use Rattle.std.specs.Prelude.{◌≡◌, ◌+◌, ◌++◌, [], All, IsTrue, IsFalse};
+ghost use Rattle.std.specs.Prelude.{IsOk, IfOk, OnOk, OnErr};
 ghost use Rattle.std.specs.Prelude.{string_bytes};
 ghost use Rattle.std.specs.List.{list_all};
-ghost use Rattle.ansi_items.specs.Plain.{has_escape};
+ghost use Rattle.std.specs.Str.{IsUtf8};
+ghost use Rattle.ansi_items.specs.Plain.{plain, has_escape};
 ghost use Rattle.ansi_style.specs.Written.{longest_start_and_close};
-ghost use Rattle.ansi_safe.specs.Cells.{paragraph};
-ghost use Rattle.ansi_safe.specs.Links.{longest_link_end};
+ghost use Rattle.ansi_safe.specs.Cells.{cell, paragraph};
+ghost use Rattle.ansi_safe.specs.Links.{longest_link_end, IsClosed};
+ghost use Rattle.ansi_safe.specs.Safe.{is_safe};
+ghost use Rattle.ansi_safe.specs.declared.policy.Links.TheVariants.{Keep};
+ghost use Rattle.ansi_columns.specs.OneLine.{is_one_line};
 ghost use Rattle.ansi_split.specs.Splits.{CarriedPart, IsCarriedPart};
+ghost use Rattle.ansi_columns.specs.Columns.{columns};
 ghost use Rattle.ansi_columns.specs.Indents.{shown_indent, after_indent};
 ghost use Rattle.ansi_columns.specs.Indents.{wrapped_with, IsWrappedWith};
 
@@ -41,6 +47,7 @@ pub struct Wrap<'a> {
 
 impl<'a> Wrap<'a> {
     ghost use Rattle.std.specs.Prelude.{◌≡◌, []};
+    ghost use Rattle.std.specs.Str.{IsUtf8};
     ghost use Rattle.ansi_columns.specs.Indents.{text_width};
 
     /// Wrapping at `width` columns, without an indent.
@@ -75,12 +82,23 @@ impl<'a> Wrap<'a> {
 
     /// The columns that the wider of both indents leaves.
     fn text_width(&self) -> usize
-        ensures { result ≡ text_width self.now.width self.now.first_indent.now self.now.indent.now }
+        ensures width { result
+            ≡ text_width self.now.width self.now.first_indent.now self.now.indent.now }
+        ensures first { IsUtf8 self.now.first_indent.now }
+        ensures later { IsUtf8 self.now.indent.now }
     {
-        let first = widths::width(self.first_indent, View::Shown);
-        let later = widths::width(self.indent, View::Shown);
+        let first = indent_width(self.first_indent);
+        let later = indent_width(self.indent);
         self.width.saturating_sub(first.max(later))
     }
+}
+
+/// The columns of an indent, which is a text.
+fn indent_width(indent: &str) -> usize
+    ensures columns { result ≡ columns (plain (cell indent.now)) }
+    ensures utf8 { IsUtf8 indent.now }
+{
+    widths::width(indent, View::Shown)
 }
 
 /// The lines of a wrapped text with their indents, in order: the iterator that
@@ -126,6 +144,9 @@ pub fn wrap_with<'t, 'a, A: Allocator + Copy>(
         to.now.indent.now result }
     ensures lines { result ≡ wrapped_with text.now to.now.width to.now.first_indent.now
         to.now.indent.now }
+    ensures safe { All (λ l. IsTrue (is_safe Keep l.bytes)) result }
+    ensures one_line { All (λ l. IsTrue (is_one_line l.bytes)) result }
+    ensures closed { All (λ l. IsClosed l.bytes) result }
     ensures takes_no_memory { paragraph text.now ≡ text.now → IsFalse (has_escape text.now) →
         to.now.first_indent.now ≡ [] → to.now.indent.now ≡ [] →
         IsTrue (list_all (λ l. l.borrowed) result) }
