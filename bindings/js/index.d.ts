@@ -131,7 +131,7 @@ export function columnOf(text: string, position: number): number;
 /**
  * The text truncated to `width` columns, on one line and safe: SGRs, clean links (OSC 8) and printing characters stay, TAB and line
  * ends become a blank, and the rest is left out. The link and the style still open at its end are closed. A tail, for example `…`,
- * follows if something was cut off and the tail isn't wider than `width`; its columns count too.
+ * follows if something was cut off and the tail isn't wider than `width`; its columns count too. It is shown as the text is, and closed.
  */
 export function truncate(text: string, width: number, tail?: string): string;
 

@@ -158,9 +158,10 @@ pub trait AnsiColumns: AnsiStr {
 
     /// The text truncated to `width` columns, on one line and safe: SGRs, clean links (OSC 8) and printing characters stay,
     /// TAB and line ends become a blank, and the rest is left out. What fits then isn't cut. Any other text is cut, as by
-    /// [`ansi_cut`](AnsiStr::ansi_cut), to the longest prefix that fits beside the tail, and the tail follows unchanged. A
-    /// tail wider than `width` is left out. The link and then the style still open at the end of the text are closed before
-    /// the tail. The result is borrowed if it is a prefix of the text.
+    /// [`ansi_cut`](AnsiStr::ansi_cut), to the longest prefix that fits beside the tail, and the tail follows. It is
+    /// shown as the text is, and what it leaves open is closed. A tail wider than `width` is left out. The link and then the
+    /// style still open at the end of the text are closed before the tail. The result is borrowed if it is a prefix of the
+    /// text.
     ///
     /// ```
     /// use ansi_str::columns::AnsiColumns;
@@ -193,7 +194,7 @@ pub trait AnsiColumns: AnsiStr {
 
     /// The text truncated at its end, at its start or in its middle. At its end it is truncated as by
     /// [`ansi_truncate`](AnsiColumns::ansi_truncate), and so is a text that fits. Otherwise its first and last columns stay, as
-    /// by [`ansi_slice`](AnsiColumns::ansi_slice), with the tail unchanged between them: as many as the tail leaves of the width.
+    /// by [`ansi_slice`](AnsiColumns::ansi_slice), with the tail between them: as many as the tail leaves of the width.
     /// A tail wider than the width is left out. The result is borrowed if it is a prefix of the text.
     ///
     /// ```

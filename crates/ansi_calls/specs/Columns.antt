@@ -1,5 +1,5 @@
 -- What each call on columns does. A text that isn't UTF-8 makes it fail with the status `not_utf8`, and what it writes to is unchanged.
-use Rattle.std.specs.Prelude.{◌≡◌, ◌⊎◌, ℕ, true, not, ◌&&◌, ◌||◌, ◌==◌, List, [], ◌∷◌, length, map, flat_map, bytes_eq, Option, None, Some, if◌then◌else◌}
+use Rattle.std.specs.Prelude.{Bool, ◌≡◌, ◌⊎◌, ℕ, true, not, ◌&&◌, ◌||◌, ◌==◌, List, [], ◌∷◌, length, map, flat_map, bytes_eq, Option, None, Some, if◌then◌else◌}
 use Rattle.std.specs.Option.{option_map_or}
 use Rattle.std.specs.Str.{IsCharBoundary}
 use Rattle.ansi_columns.specs.declared.shown.Alignment.{Alignment}
@@ -13,7 +13,7 @@ use Rattle.ansi_columns.specs.Fitted.{fitted}
 use Rattle.ansi_columns.specs.Lines.{lines}
 use Rattle.ansi_columns.specs.LineWalks.{lines_of_walk, IsLineWalk}
 use Rattle.ansi_columns.specs.declared.line_walks.LineWalk.{LineWalk}
-use Rattle.ansi_columns.specs.Shown.{truncated, truncated_ending, padded, missing, closing}
+use Rattle.ansi_columns.specs.Shown.{truncated, truncated_ending, padded, missing, closing, closed_cell}
 use Rattle.ansi_columns.specs.Sides.{truncated_at}
 use Rattle.ansi_columns.specs.Slices.{is_sliced_stretch, sliced}
 use Rattle.ansi_columns.specs.Tabs.{has_tab, expanded}
@@ -43,10 +43,14 @@ TellsFitting t width answer =
 abbrev pub TellsColumn : List ℕ → ℕ → Answer → Type 0
 TellsColumn t position answer = OnUtf8 (t ∷ []) (answer ≡ option_map_or done (column_of t position) (failed refused)) (answer ≡ failed not_utf8)
 
--- a call writes the text t truncated to `width` columns, and allocates only if its cell isn't t, or something is written after the part that stays
+-- the text t is a cell that leaves nothing open
+abbrev pub is_closed_cell : List ℕ → Bool
+is_closed_cell t = is_cell t && length (closing (cell t)) == 0
+
+-- a call writes the text t truncated to `width` columns, and allocates only if its cell isn't t, the tail isn't a closed cell, or something is written after the part that stays
 unfoldable pub GivesTruncated : List ℕ → ℕ → List ℕ → Answer → List ℕ → List ℕ → Type 0
 GivesTruncated t width tail answer old new =
-    Gives no (not (is_cell t && length (truncated_ending (cell t) width tail) == 0)) (Some (truncated (cell t) width tail)) answer old new
+    Gives no (not (is_cell t && (is_closed_cell tail && length (truncated_ending (cell t) width (closed_cell tail)) == 0))) (Some (truncated (cell t) width (closed_cell tail))) answer old new
 
 -- `truncate` does so
 abbrev pub Truncates : List ℕ → ℕ → List ℕ → Answer → List ℕ → List ℕ → Type 0
@@ -65,7 +69,7 @@ Pads t width n answer old new = OnUtf8 (t ∷ []) (GivesPadded t width (alignmen
 -- a call writes the text t truncated or padded to `width` columns, and may allocate for any text; it is refused if there is no such alignment
 unfoldable pub GivesFitted : List ℕ → ℕ → Option Alignment → List ℕ → Answer → List ℕ → List ℕ → Type 0
 GivesFitted t width None tail answer old new = HasFailed refused answer old new
-GivesFitted t width (Some alignment) tail answer old new = Gives no true (Some (fitted (cell t) width alignment tail)) answer old new
+GivesFitted t width (Some alignment) tail answer old new = Gives no true (Some (fitted (cell t) width alignment (closed_cell tail))) answer old new
 
 -- `fit` does so, with the alignment of this number
 abbrev pub Fits : List ℕ → ℕ → ℕ → List ℕ → Answer → List ℕ → List ℕ → Type 0
@@ -78,7 +82,7 @@ side_of n = if n == 0 then Some End else if n == 1 then Some Start else if n == 
 -- a call writes the text t truncated to `width` columns at a side, and may allocate for any text; it is refused if there is no such side
 unfoldable pub GivesTruncatedAt : List ℕ → ℕ → List ℕ → Option Side → Answer → List ℕ → List ℕ → Type 0
 GivesTruncatedAt t width tail None answer old new = HasFailed refused answer old new
-GivesTruncatedAt t width tail (Some side) answer old new = Gives no true (Some (truncated_at side (cell t) width tail)) answer old new
+GivesTruncatedAt t width tail (Some side) answer old new = Gives no true (Some (truncated_at side (cell t) width (closed_cell tail))) answer old new
 
 -- `truncate_with` does so, at the side of this number
 abbrev pub TruncatesAt : List ℕ → ℕ → List ℕ → ℕ → Answer → List ℕ → List ℕ → Type 0

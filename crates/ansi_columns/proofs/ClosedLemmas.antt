@@ -85,7 +85,7 @@ IsTraced-bare s x none = record { whole = is_whole-bare x none; after = ap (styl
     alone [] = refl
     alone (b ∷ x) = refl
 
-marks-bare : (x : List ℕ) → has_escape x ≡ false → marks x ≡ []
+pub marks-bare : (x : List ℕ) → has_escape x ≡ false → marks x ≡ []
 marks-bare x none = ap marks_of (pieces_of-bare x none) ∙ alone x
   where
     alone : (x : List ℕ) → marks_of (one_text x) ≡ []

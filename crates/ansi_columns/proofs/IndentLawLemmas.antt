@@ -16,6 +16,7 @@ use Rattle.ansi_safe.proofs.CellTextLemmas.{whole-cell}
 use Rattle.ansi_safe.proofs.LinkLemmas.{link_of-pieces}
 use Rattle.ansi_columns.specs.declared.shown.Alignment.TheVariants.{Left}
 use Rattle.ansi_columns.specs.Addresses.{linked}
+use Rattle.ansi_columns.specs.Shown.{closed_cell}
 use Rattle.ansi_columns.specs.Indents.{shown_indent, text_width, after_indent, indented, wrapped_with}
 use Rattle.ansi_columns.specs.Wrapped.{CarriedPart, wrapped}
 use Rattle.ansi_columns.proofs.IndentLemmas.{padded-closed_alone}
@@ -48,8 +49,8 @@ shut-append u v first second = record {
   };
 }
 
-pub shut-indent : (t : List ℕ) → IsUtf8 t → IsShut (shown_indent t)
-shut-indent t utf8 =
+pub shut-cell : (t : List ℕ) → IsUtf8 t → IsShut (closed_cell t)
+shut-cell t utf8 =
     let whole = whole-cell t utf8 in
     subst IsShut (padded-closed_alone (cell t)) (record {
       whole = padded-whole (cell t) 0 Left whole;
@@ -75,4 +76,4 @@ wrapped_are_shut t width safe = λ k d lt. record {
 pub shut-wrapped_with : (t first later : List ℕ) (width : ℕ) → IsTrue (is_safe Keep (paragraph t)) → IsUtf8 first → IsUtf8 later → All (λ (l : CarriedPart). IsShut l.bytes) (wrapped_with t width first later)
 shut-wrapped_with t first later width safe first_utf8 later_utf8 =
     let room = text_width width first later in
-    shut-indented first later (wrapped t room) (shut-indent first first_utf8) (shut-indent later later_utf8) (wrapped_are_shut t room safe)
+    shut-indented first later (wrapped t room) (shut-cell first first_utf8) (shut-cell later later_utf8) (wrapped_are_shut t room safe)

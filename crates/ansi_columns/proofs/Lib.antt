@@ -59,6 +59,7 @@ pub mod SidesLemmas
 pub mod FittedLawLemmas
 pub mod SidesLawLemmas
 pub mod IndentLawLemmas
+pub mod TailLemmas
 pub mod PlainCellLemmas
 pub mod PrintableTextLemmas
 pub mod FrontRunLemmas

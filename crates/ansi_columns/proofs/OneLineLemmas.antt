@@ -83,7 +83,7 @@ Prints-slice x a b is from to = elim (cases_lt b a) [
 printing-allowed : (c : ℕ) (cs : List ℕ) → is_printing c ≡ true → is_allowed c cs ≡ true
 printing-allowed c cs is = ap (λ b. b || (c == byte "\t" || (c == byte "\n" || (c == byte "\r" && slice_index cs 0 == byte "\n")))) is
 
-printing_are_allowed : (cs : List ℕ) → list_all is_printing cs ≡ true → all_allowed cs ≡ true
+pub printing_are_allowed : (cs : List ℕ) → list_all is_printing cs ≡ true → all_allowed cs ≡ true
 printing_are_allowed [] all = refl
 printing_are_allowed (c ∷ cs) all =
     let both = and_parts (is_printing c) (list_all is_printing cs) all in

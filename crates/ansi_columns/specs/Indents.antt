@@ -3,12 +3,12 @@ use Rattle.std.specs.Prelude.{◌≡◌, ℕ, ◌+◌, ◌-◌, max, ◌==◌, �
 use Rattle.ansi_items.specs.Plain.{plain}
 use Rattle.ansi_safe.specs.Cells.{cell}
 use Rattle.ansi_columns.specs.Columns.{columns}
-use Rattle.ansi_columns.specs.Shown.{closing}
+use Rattle.ansi_columns.specs.Shown.{closed_cell}
 use Rattle.ansi_columns.specs.Wrapped.{CarriedPart, IsWrapped, wrapped}
 
--- an indent t is a text of its own: the text of a cell, and what closes its pen (own)
+-- an indent t is a text of its own (own)
 abbrev pub shown_indent : List ℕ → List ℕ
-shown_indent t = cell t ++ closing (cell t)
+shown_indent t = closed_cell t
 
 -- the columns that the wider of two indents leaves of a width
 abbrev pub text_width : ℕ → List ℕ → List ℕ → ℕ

@@ -80,6 +80,10 @@ without_style x = map (λ b. record { byte = b; style = plain_style }) x
 abbrev pub closing : List ℕ → List ℕ
 closing t = pen_close t (length (plain t))
 
+-- a text beside another, such as a tail, is a text of its own: the text of a cell, and what closes its pen (own)
+abbrev pub closed_cell : List ℕ → List ℕ
+closed_cell t = cell t ++ closing (cell t)
+
 -- the text t, what closes its pen, and the missing blanks (own)
 unfoldable pub padded : List ℕ → ℕ → Alignment → List ℕ
 padded t width alignment =

@@ -16,6 +16,7 @@ ghost use Rattle.ansi_safe.specs.Safe.{is_safe};
 ghost use Rattle.ansi_safe.specs.declared.policy.Links.TheVariants.{Keep};
 ghost use Rattle.ansi_columns.specs.OneLine.{is_one_line};
 ghost use Rattle.ansi_columns.specs.Shown.{truncated_ending, truncated, KeptStays, missing, closing, padded};
+ghost use Rattle.ansi_columns.specs.Shown.{closed_cell};
 ghost use Rattle.ansi_columns.specs.Fitted.{fitted};
 ghost use Rattle.ansi_columns.specs.Sides.{is_cut_at_end, truncated_at};
 ghost use Rattle.ansi_columns.specs.Slices.{is_sliced_stretch, sliced_blanks, sliced};
@@ -112,15 +113,16 @@ pub trait AnsiColumns: AnsiStr {
     ///
     /// What is shown is the text of a cell, as `ansi_safe::cells::cell_of` makes it: it is on one
     /// line and safe. A text that fits isn't cut. Any other text is cut, as `ansi_cut` does it, at
-    /// the end of the longest prefix that leaves room for the tail, and the tail is appended
-    /// unchanged. A tail wider than `width` is left out. In each case the link and then the style
-    /// still open at the end of the text are closed, before the tail.
+    /// the end of the longest prefix that leaves room for the tail, and the tail is appended. A tail
+    /// wider than `width` is left out. In each case the link and then the style still open at the
+    /// end of the text are closed, before the tail. The tail is shown as the text of a cell too, and
+    /// what it leaves open is closed after it: `\x1b[2J~` is the tail `~`.
     ///
-    /// Reads what `ansi_fitting` reads. Returns a borrow, and doesn't allocate, if nothing of the
-    /// part that stays has to be changed, and nothing has to be written after it. Otherwise the
-    /// result is at most as long as the text and the tail together, plus 7 bytes for the link and 88
-    /// for the style. `Err` means out of memory. (`truncate_str` of `console`; the text of a cell,
-    /// and closing links and styles, own.)
+    /// Reads what `ansi_fitting` reads. Returns a borrow if nothing of the part that stays has to be
+    /// changed, and nothing has to be written after it. Then it doesn't allocate, unless the tail has
+    /// to be changed. Otherwise the result is at most as long as the text and the shown tail
+    /// together, plus 7 bytes for the link and 88 for the style. `Err` means out of memory.
+    /// (`truncate_str` of `console`; the text of a cell, and closing links and styles, own.)
     ///
     /// ```
     /// let cut = "\x1b[31m日本\t語\x1b[39m".ansi_truncate(rt.alloc(), 6, "…")?;
@@ -133,14 +135,20 @@ pub trait AnsiColumns: AnsiStr {
         tail: &str,
     ) -> Result<CowStr<'_>, AllocError>
         ensures bytes { IfOk result (λ c.
-            cow_str_bytes c ≡ truncated (cell (Self.text self.now)) width tail.now) }
+            cow_str_bytes c ≡ truncated (cell (Self.text self.now)) width (closed_cell tail.now)) }
+        ensures safe { IfOk result (λ c. IsTrue (is_safe Keep (cow_str_bytes c))) }
+        ensures one_line { IfOk result (λ c. IsTrue (is_one_line (cow_str_bytes c))) }
+        ensures closed { IfOk result (λ c. IsClosed (cow_str_bytes c)) }
         ensures borrowed { IfOk result (λ c. IsBorrowedStr c
-            ↔ (KeptStays (Self.text self.now) width tail.now
-            × (truncated_ending (cell (Self.text self.now)) width tail.now ≡ []))) }
+            ↔ (KeptStays (Self.text self.now) width (closed_cell tail.now)
+            × (truncated_ending (cell (Self.text self.now)) width (closed_cell tail.now) ≡ []))) }
         ensures len { IfOk result (λ c. length (cow_str_bytes c)
-            ≤ length (Self.text self.now) + length tail.now + longest_link_end + longest_close) }
-        ensures takes_no_memory { KeptStays (Self.text self.now) width tail.now
-            × (truncated_ending (cell (Self.text self.now)) width tail.now ≡ []) → IsOk result }
+            ≤ length (Self.text self.now) + length (closed_cell tail.now)
+            + longest_link_end + longest_close) }
+        ensures takes_no_memory { (cell tail.now ≡ tail.now) × (closing (cell tail.now) ≡ [])
+            × KeptStays (Self.text self.now) width (closed_cell tail.now)
+            × (truncated_ending (cell (Self.text self.now)) width (closed_cell tail.now) ≡ []) →
+            IsOk result }
     {
         truncate(alloc, self.as_text(), width, tail)
     }
@@ -187,10 +195,11 @@ pub trait AnsiColumns: AnsiStr {
     /// The text of a table's cell: truncated to `width` columns, as `ansi_truncate` does it, and then
     /// padded to them, as `ansi_pad` does it.
     ///
-    /// Returns a borrow, and doesn't allocate, if nothing of the part that stays has to be changed,
-    /// no tail and no blank is needed, and nothing is open. Otherwise the result is at most as long
-    /// as the text and the tail together, plus one byte for each missing column, 14 for links and
-    /// 176 for styles. `Err` means out of memory. (Own.)
+    /// Returns a borrow if nothing of the part that stays has to be changed, no tail and no blank is
+    /// needed, and nothing is open. Then it doesn't allocate, unless the tail has to be changed.
+    /// Otherwise the result is at most as long as the text and the shown tail together, plus one
+    /// byte for each missing column, 14 for links and 176 for styles. `Err` means out of memory.
+    /// (Own.)
     ///
     /// ```
     /// let cell = "\x1b[41mab".ansi_fit(rt.alloc(), 4, Alignment::Left, "…")?;
@@ -205,21 +214,25 @@ pub trait AnsiColumns: AnsiStr {
         alignment: Alignment,
         tail: &str,
     ) -> Result<CowStr<'_>, AllocError>
-        ensures bytes { IfOk result (λ c.
-            cow_str_bytes c ≡ fitted (cell (Self.text self.now)) width alignment tail.now) }
+        ensures bytes { IfOk result (λ c. cow_str_bytes c
+            ≡ fitted (cell (Self.text self.now)) width alignment (closed_cell tail.now)) }
+        ensures safe { IfOk result (λ c. IsTrue (is_safe Keep (cow_str_bytes c))) }
+        ensures one_line { IfOk result (λ c. IsTrue (is_one_line (cow_str_bytes c))) }
+        ensures closed { IfOk result (λ c. IsClosed (cow_str_bytes c)) }
         ensures borrowed { IfOk result (λ c. IsBorrowedStr c
-            ↔ (KeptStays (Self.text self.now) width tail.now
-            × (truncated_ending (cell (Self.text self.now)) width tail.now ≡ [])
-            × (missing (truncated (cell (Self.text self.now)) width tail.now) width ≡ 0)
-            × (closing (truncated (cell (Self.text self.now)) width tail.now) ≡ []))) }
+            ↔ (KeptStays (Self.text self.now) width (closed_cell tail.now)
+            × (truncated_ending (cell (Self.text self.now)) width (closed_cell tail.now) ≡ [])
+            × (missing (truncated (cell (Self.text self.now)) width (closed_cell tail.now)) width ≡ 0)
+            × (closing (truncated (cell (Self.text self.now)) width (closed_cell tail.now)) ≡ []))) }
         ensures len { IfOk result (λ c. length (cow_str_bytes c)
-            ≤ length (Self.text self.now) + length tail.now
-            + missing (truncated (cell (Self.text self.now)) width tail.now) width
+            ≤ length (Self.text self.now) + length (closed_cell tail.now)
+            + missing (truncated (cell (Self.text self.now)) width (closed_cell tail.now)) width
             + 2 * (longest_link_end + longest_close)) }
-        ensures takes_no_memory { KeptStays (Self.text self.now) width tail.now
-            × (truncated_ending (cell (Self.text self.now)) width tail.now ≡ [])
-            × (missing (truncated (cell (Self.text self.now)) width tail.now) width ≡ 0)
-            × (closing (truncated (cell (Self.text self.now)) width tail.now) ≡ []) →
+        ensures takes_no_memory { (cell tail.now ≡ tail.now) × (closing (cell tail.now) ≡ [])
+            × KeptStays (Self.text self.now) width (closed_cell tail.now)
+            × (truncated_ending (cell (Self.text self.now)) width (closed_cell tail.now) ≡ [])
+            × (missing (truncated (cell (Self.text self.now)) width (closed_cell tail.now)) width ≡ 0)
+            × (closing (truncated (cell (Self.text self.now)) width (closed_cell tail.now)) ≡ []) →
             IsOk result }
     {
         fit(alloc, self.as_text(), width, alignment, tail)
@@ -228,14 +241,14 @@ pub trait AnsiColumns: AnsiStr {
     /// The text truncated for display at its end, at its start or in its middle.
     ///
     /// At its end it is truncated as `ansi_truncate` does it, and so is a text that fits. Otherwise
-    /// its first and last columns stay, as `ansi_slice` takes them, with the tail unchanged between
-    /// them: as many as the tail leaves of the width. A tail wider than the width is left out.
+    /// its first and last columns stay, as `ansi_slice` takes them, with the tail between them: as
+    /// many as the tail leaves of the width. A tail wider than the width is left out.
     ///
-    /// Returns a borrow, and doesn't allocate, if the text isn't cut at its start or in its middle,
-    /// nothing of the part that stays has to be changed, and nothing has to be written after it.
-    /// Otherwise the result is at most twice as long as the text, plus the length of the tail, one
-    /// byte for each column of the width, 502 for styles and 14 for links. `Err` means out of
-    /// memory. (`cli-truncate`; the text of a cell, and opening and closing, own.)
+    /// Returns a borrow if the text isn't cut at its start or in its middle, nothing of the part that
+    /// stays has to be changed, and nothing has to be written after it. Then it doesn't allocate,
+    /// unless the tail has to be changed. Otherwise the result is at most twice as long as the text,
+    /// plus the length of the shown tail, one byte for each column of the width, 502 for styles and
+    /// 14 for links. `Err` means out of memory. (`cli-truncate`; the text of a cell, and opening and closing, own.)
     ///
     /// ```
     /// let to = Truncation::to(8).tail("…").side(Side::Middle);
@@ -247,19 +260,25 @@ pub trait AnsiColumns: AnsiStr {
         alloc: Global,
         to: &Truncation<'_>,
     ) -> Result<CowStr<'_>, AllocError>
-        ensures bytes { IfOk result (λ c. cow_str_bytes c
-            ≡ truncated_at to.now.side (cell (Self.text self.now)) to.now.width to.now.tail.now) }
+        ensures bytes { IfOk result (λ c. cow_str_bytes c ≡ truncated_at to.now.side
+            (cell (Self.text self.now)) to.now.width (closed_cell to.now.tail.now)) }
+        ensures safe { IfOk result (λ c. IsTrue (is_safe Keep (cow_str_bytes c))) }
+        ensures one_line { IfOk result (λ c. IsTrue (is_one_line (cow_str_bytes c))) }
+        ensures closed { IfOk result (λ c. IsClosed (cow_str_bytes c)) }
         ensures borrowed { IfOk result (λ c. IsBorrowedStr c
-            ↔ (KeptStays (Self.text self.now) to.now.width to.now.tail.now
+            ↔ (KeptStays (Self.text self.now) to.now.width (closed_cell to.now.tail.now)
             × IsTrue (is_cut_at_end to.now.side (cell (Self.text self.now)) to.now.width)
-            × (truncated_ending (cell (Self.text self.now)) to.now.width to.now.tail.now ≡ []))) }
+            × (truncated_ending (cell (Self.text self.now)) to.now.width
+            (closed_cell to.now.tail.now) ≡ []))) }
         ensures len { IfOk result (λ c. length (cow_str_bytes c)
-            ≤ 2 * length (Self.text self.now) + length to.now.tail.now + to.now.width
+            ≤ 2 * length (Self.text self.now) + length (closed_cell to.now.tail.now) + to.now.width
             + 2 * (longest_start_and_close + longest_link_end)) }
-        ensures takes_no_memory { KeptStays (Self.text self.now) to.now.width to.now.tail.now
+        ensures takes_no_memory { (cell to.now.tail.now ≡ to.now.tail.now)
+            × (closing (cell to.now.tail.now) ≡ [])
+            × KeptStays (Self.text self.now) to.now.width (closed_cell to.now.tail.now)
             × IsTrue (is_cut_at_end to.now.side (cell (Self.text self.now)) to.now.width)
-            × (truncated_ending (cell (Self.text self.now)) to.now.width to.now.tail.now ≡ []) →
-            IsOk result }
+            × (truncated_ending (cell (Self.text self.now)) to.now.width
+            (closed_cell to.now.tail.now) ≡ []) → IsOk result }
     {
         truncate_with(alloc, self.as_text(), to)
     }

@@ -1,13 +1,17 @@
 //! The text of a table's cell: truncated if it is too wide, and padded if it is too narrow.
-ghost use Rattle.std.specs.Prelude.{◌≡◌, ◌↔◌, ◌+◌, ◌*◌, ◌≤◌, [], length, IsOk, IfOk};
+ghost use Rattle.std.specs.Prelude.{◌≡◌, ◌↔◌, ◌+◌, ◌*◌, ◌≤◌, [], length, IsOk, IfOk, IsTrue};
 ghost use Rattle.std.specs.Cow.{cow_str_bytes, IsBorrowedStr};
 ghost use Rattle.ansi_style.specs.Written.{longest_close};
 ghost use Rattle.ansi_safe.specs.Cells.{cell};
-ghost use Rattle.ansi_safe.specs.Links.{longest_link_end};
+ghost use Rattle.ansi_safe.specs.Links.{longest_link_end, IsClosed};
+ghost use Rattle.ansi_safe.specs.Safe.{is_safe};
+ghost use Rattle.ansi_safe.specs.declared.policy.Links.TheVariants.{Keep};
 ghost use Rattle.ansi_columns.specs.Fitted.{fitted};
+ghost use Rattle.ansi_columns.specs.OneLine.{is_one_line};
 ghost use Rattle.ansi_columns.specs.Shown.{truncated_ending, truncated, KeptStays, missing, closing};
+ghost use Rattle.ansi_columns.specs.Shown.{closed_cell};
 
-use crate::shown::{Alignment, TruncatedParts, pad_cell, truncated_parts, write_shown};
+use crate::shown::{Alignment, TruncatedParts, closed_cell, pad_cell, truncated_parts, write_shown};
 use ansi_safe::links::pen_after;
 use std::alloc::{AllocError, Allocator};
 use std::borrow::CowStr;
@@ -20,6 +24,38 @@ use std::borrow::CowStr;
 /// assert!(rt; cell.as_str() == " \x1b[31m日\x1b[39m…");
 /// ```
 pub fn fit<'t, A: Allocator + Copy>(
+    alloc: A,
+    text: &'t str,
+    width: usize,
+    alignment: Alignment,
+    tail: &str,
+) -> Result<CowStr<'t, A>, AllocError>
+    ensures bytes { IfOk result (λ c.
+        cow_str_bytes c ≡ fitted (cell text.now) width alignment (closed_cell tail.now)) }
+    ensures safe { IfOk result (λ c. IsTrue (is_safe Keep (cow_str_bytes c))) }
+    ensures one_line { IfOk result (λ c. IsTrue (is_one_line (cow_str_bytes c))) }
+    ensures closed { IfOk result (λ c. IsClosed (cow_str_bytes c)) }
+    ensures borrowed { IfOk result (λ c. IsBorrowedStr c
+        ↔ (KeptStays text.now width (closed_cell tail.now)
+        × (truncated_ending (cell text.now) width (closed_cell tail.now) ≡ [])
+        × (missing (truncated (cell text.now) width (closed_cell tail.now)) width ≡ 0)
+        × (closing (truncated (cell text.now) width (closed_cell tail.now)) ≡ []))) }
+    ensures len { IfOk result (λ c. length (cow_str_bytes c)
+        ≤ length text.now + length (closed_cell tail.now)
+        + missing (truncated (cell text.now) width (closed_cell tail.now)) width
+        + 2 * (longest_link_end + longest_close)) }
+    ensures takes_no_memory { (cell tail.now ≡ tail.now) × (closing (cell tail.now) ≡ [])
+        × KeptStays text.now width (closed_cell tail.now)
+        × (truncated_ending (cell text.now) width (closed_cell tail.now) ≡ [])
+        × (missing (truncated (cell text.now) width (closed_cell tail.now)) width ≡ 0)
+        × (closing (truncated (cell text.now) width (closed_cell tail.now)) ≡ []) → IsOk result }
+{
+    let tail = closed_cell(alloc, tail)?;
+    fit_beside(alloc, text, width, alignment, tail.as_str())
+}
+
+/// A text that is truncated, with this tail as it is, and then padded.
+fn fit_beside<'t, A: Allocator + Copy>(
     alloc: A,
     text: &'t str,
     width: usize,

@@ -22,7 +22,7 @@ ghost use Rattle.ansi_columns.specs.Lines.{lines, AreLinesFrom, BeginWithBlanks,
 ghost use Rattle.ansi_safe.specs.Cells.{cell, paragraph};
 ghost use Rattle.ansi_safe.specs.Links.{link_of, IsClosed};
 ghost use Rattle.ansi_columns.specs.Shown.{has_tail, truncated_end, truncated, KeptStays, missing};
-ghost use Rattle.ansi_columns.specs.Shown.{before_text, blanks, padded, without_style};
+ghost use Rattle.ansi_columns.specs.Shown.{before_text, blanks, padded, without_style, closed_cell};
 ghost use Rattle.ansi_columns.specs.Screens.{screen, screen_slice, plain_blank};
 ghost use Rattle.ansi_columns.specs.Sides.{truncated_at};
 ghost use Rattle.ansi_columns.specs.Slices.{sliced_up_to};
@@ -153,6 +153,11 @@ pub fn truncated_at_fits()
         IsTrue (list_all (is_in_range 0x20 0x7E) (plain (cell t))) →
         IsTrue (list_all (is_in_range 0x20 0x7E) (plain tail)) → IsTrue (is_whole tail) →
         columns (plain (truncated_at side (cell t) width tail)) ≤ width }
+{}
+
+/// A tail or an indent that is printable ASCII is shown as it is.
+pub fn printable_tails_stay()
+    ensures { (x : List ℕ) → IsTrue (list_all (is_in_range 0x20 0x7E) x) → closed_cell x ≡ x }
 {}
 
 /// Each line of a wrapped text is whole, whatever the text is, and leaves no known style open.

@@ -5,6 +5,7 @@ ghost use Rattle.std.specs.Prelude.{IsOk, IfOk, OnOk, IfSome, IsTrue, true, fals
 ghost use Rattle.std.specs.Prelude.{if◌then◌else◌};
 ghost use Rattle.std.specs.Prelude.{string_bytes};
 ghost use Rattle.std.specs.List.{list_all};
+ghost use Rattle.std.specs.Str.{IsUtf8};
 ghost use Rattle.std.specs.Cow.{cow_str_bytes, IsBorrowedStr};
 ghost use Rattle.unicode_segmentation.specs.Grapheme.{is_grapheme_break};
 ghost use Rattle.ansi_items.specs.Bytes.{is_plain_byte};
@@ -20,7 +21,7 @@ ghost use Rattle.ansi_columns.specs.Columns.{columns};
 ghost use Rattle.ansi_columns.specs.Shown.{has_tail, truncated_width, truncated_ending};
 ghost use Rattle.ansi_columns.specs.Shown.{truncated, KeptStays};
 ghost use Rattle.ansi_columns.specs.Shown.{missing, before_text, blanks, between_blanks, closing};
-ghost use Rattle.ansi_columns.specs.Shown.{padded};
+ghost use Rattle.ansi_columns.specs.Shown.{padded, closed_cell};
 ghost use Rattle.ansi_columns.specs.BreakStates.{break_state_of};
 ghost use Rattle.ansi_columns.specs.PlainCells.{IsFront};
 ghost use Rattle.ansi_columns.specs.Walks.{IsWalkIn, IsFitted, SeesUpTo};
@@ -32,6 +33,7 @@ use crate::walks::{Walk, first_run};
 use crate::widths;
 use ansi_safe::cells::cell_and_ending;
 use ansi_safe::links::{Ending, LONGEST_ENDING};
+use ansi_safe::printable::printable_len;
 use std::alloc::{AllocError, Allocator};
 use std::borrow::CowStr;
 
@@ -64,6 +66,31 @@ pub fn truncate<'t, A: Allocator + Copy>(
     tail: &str,
 ) -> Result<CowStr<'t, A>, AllocError>
     ensures bytes { IfOk result (λ c.
+        cow_str_bytes c ≡ truncated (cell text.now) width (closed_cell tail.now)) }
+    ensures safe { IfOk result (λ c. IsTrue (is_safe Keep (cow_str_bytes c))) }
+    ensures one_line { IfOk result (λ c. IsTrue (is_one_line (cow_str_bytes c))) }
+    ensures closed { IfOk result (λ c. IsClosed (cow_str_bytes c)) }
+    ensures borrowed { IfOk result (λ c. IsBorrowedStr c
+        ↔ (KeptStays text.now width (closed_cell tail.now)
+        × (truncated_ending (cell text.now) width (closed_cell tail.now) ≡ []))) }
+    ensures len { IfOk result (λ c. length (cow_str_bytes c) ≤ length text.now
+        + length (closed_cell tail.now) + longest_link_end + longest_close) }
+    ensures takes_no_memory { (cell tail.now ≡ tail.now) × (closing (cell tail.now) ≡ [])
+        × KeptStays text.now width (closed_cell tail.now)
+        × (truncated_ending (cell text.now) width (closed_cell tail.now) ≡ []) → IsOk result }
+{
+    let tail = closed_cell(alloc, tail)?;
+    truncate_beside(alloc, text, width, tail.as_str())
+}
+
+/// A text that is truncated, with this tail as it is.
+pub(crate) fn truncate_beside<'t, A: Allocator + Copy>(
+    alloc: A,
+    text: &'t str,
+    width: usize,
+    tail: &str,
+) -> Result<CowStr<'t, A>, AllocError>
+    ensures bytes { IfOk result (λ c.
         cow_str_bytes c ≡ truncated (cell text.now) width tail.now) }
     ensures borrowed { IfOk result (λ c. IsBorrowedStr c ↔ (KeptStays text.now width tail.now
         × (truncated_ending (cell text.now) width tail.now ≡ []))) }
@@ -79,6 +106,33 @@ pub fn truncate<'t, A: Allocator + Copy>(
         missing: _,
     } = truncated_parts(alloc, text, width, tail)?;
     write_shown(alloc, front, &ending, tail, 0, Alignment::Left)
+}
+
+/// A text beside another, such as a tail: the text of a cell, closed. The result may borrow from
+/// the text and lives as long as it.
+pub(crate) fn closed_cell<'t, A: Allocator + Copy>(
+    alloc: A,
+    text: &'t str,
+) -> Result<CowStr<'t, A>, AllocError>
+    ensures bytes { IfOk result (λ c. cow_str_bytes c ≡ closed_cell text.now) }
+    ensures utf8 { IsUtf8 text.now }
+    ensures takes_no_memory { (cell text.now ≡ text.now) × (closing (cell text.now) ≡ []) →
+        IsOk result }
+{
+    if is_usual_tail(text) {
+        return Ok(CowStr::Borrowed(text));
+    }
+    // It isn't too narrow, so its link and its style are closed, and it gets no blanks.
+    pad(alloc, text, 0, Alignment::Left)
+}
+
+/// Whether a text is `…` or printable ASCII, so that it stays as it is in a cell, closed. `false`
+/// says nothing.
+#[inline(always)]
+fn is_usual_tail(text: &str) -> bool
+    ensures { IsTrue result → closed_cell text.now ≡ text.now }
+{
+    text == "…" || printable_len(text.as_bytes()) == text.len()
 }
 
 /// The parts of a truncated text, in order, and what it lacks.

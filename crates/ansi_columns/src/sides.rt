@@ -5,13 +5,16 @@ ghost use Rattle.std.specs.Cow.{cow_str_bytes, IsBorrowedStr};
 ghost use Rattle.ansi_items.specs.Plain.{plain};
 ghost use Rattle.ansi_style.specs.Written.{longest_start_and_close};
 ghost use Rattle.ansi_safe.specs.Cells.{cell};
-ghost use Rattle.ansi_safe.specs.Links.{longest_link_end};
+ghost use Rattle.ansi_safe.specs.Links.{longest_link_end, IsClosed};
+ghost use Rattle.ansi_safe.specs.Safe.{is_safe};
+ghost use Rattle.ansi_safe.specs.declared.policy.Links.TheVariants.{Keep};
 ghost use Rattle.ansi_columns.specs.Columns.{columns};
-ghost use Rattle.ansi_columns.specs.Shown.{truncated_ending, KeptStays};
+ghost use Rattle.ansi_columns.specs.OneLine.{is_one_line};
+ghost use Rattle.ansi_columns.specs.Shown.{truncated_ending, KeptStays, closing, closed_cell};
 ghost use Rattle.ansi_columns.specs.Sides.{is_cut_at_end, fitting_tail, cut_before_end};
 ghost use Rattle.ansi_columns.specs.Sides.{truncated_at};
 
-use crate::shown::truncate;
+use crate::shown::{closed_cell, truncate_beside};
 use crate::slices::push_slice;
 use crate::views::View;
 use crate::widths;
@@ -134,6 +137,40 @@ pub fn truncate_with<'t, A: Allocator + Copy>(
     to: &Truncation<'_>,
 ) -> Result<CowStr<'t, A>, AllocError>
     ensures bytes { IfOk result (λ c. cow_str_bytes c
+        ≡ truncated_at to.now.side (cell text.now) to.now.width (closed_cell to.now.tail.now)) }
+    ensures safe { IfOk result (λ c. IsTrue (is_safe Keep (cow_str_bytes c))) }
+    ensures one_line { IfOk result (λ c. IsTrue (is_one_line (cow_str_bytes c))) }
+    ensures closed { IfOk result (λ c. IsClosed (cow_str_bytes c)) }
+    ensures borrowed { IfOk result (λ c. IsBorrowedStr c
+        ↔ (KeptStays text.now to.now.width (closed_cell to.now.tail.now)
+        × IsTrue (is_cut_at_end to.now.side (cell text.now) to.now.width)
+        × (truncated_ending (cell text.now) to.now.width (closed_cell to.now.tail.now) ≡ []))) }
+    ensures len { IfOk result (λ c. length (cow_str_bytes c) ≤ 2 * length text.now
+        + length (closed_cell to.now.tail.now) + to.now.width
+        + 2 * (longest_start_and_close + longest_link_end)) }
+    ensures takes_no_memory { (cell to.now.tail.now ≡ to.now.tail.now)
+        × (closing (cell to.now.tail.now) ≡ [])
+        × KeptStays text.now to.now.width (closed_cell to.now.tail.now)
+        × IsTrue (is_cut_at_end to.now.side (cell text.now) to.now.width)
+        × (truncated_ending (cell text.now) to.now.width (closed_cell to.now.tail.now) ≡ []) →
+        IsOk result }
+{
+    let tail = closed_cell(alloc, to.tail)?;
+    let shown = Truncation {
+        width: to.width,
+        tail: tail.as_str(),
+        side: to.side,
+    };
+    truncate_with_beside(alloc, text, &shown)
+}
+
+/// A text that is truncated at a side, with the tail as it is.
+fn truncate_with_beside<'t, A: Allocator + Copy>(
+    alloc: A,
+    text: &'t str,
+    to: &Truncation<'_>,
+) -> Result<CowStr<'t, A>, AllocError>
+    ensures bytes { IfOk result (λ c. cow_str_bytes c
         ≡ truncated_at to.now.side (cell text.now) to.now.width to.now.tail.now) }
     ensures borrowed { IfOk result (λ c. IsBorrowedStr c ↔ (KeptStays text.now to.now.width to.now.tail.now
         × IsTrue (is_cut_at_end to.now.side (cell text.now) to.now.width)
@@ -146,7 +183,7 @@ pub fn truncate_with<'t, A: Allocator + Copy>(
         × (truncated_ending (cell text.now) to.now.width to.now.tail.now ≡ []) → IsOk result }
 {
     let Some(columns) = to.columns_cut(text) else {
-        return truncate(alloc, text, to.width, to.tail);
+        return truncate_beside(alloc, text, to.width, to.tail);
     };
     let cell = cell_of(alloc, text)?;
     Ok(CowStr::Owned(cut_before_end(alloc, cell.as_str(), columns, to)?))

@@ -3,7 +3,7 @@ use Rattle.std.specs.Prelude.{ℕ, Bool, true, false, List, [], ◌∷◌, Optio
 use Rattle.std.specs.List.{flat_map}
 use Rattle.ansi_safe.specs.Cells.{cell}
 use Rattle.ansi_columns.specs.declared.shown.Alignment.TheVariants.{Left}
-use Rattle.ansi_columns.specs.Shown.{truncated, padded}
+use Rattle.ansi_columns.specs.Shown.{truncated, padded, closed_cell}
 use Rattle.ansi_columns.specs.Slices.{sliced}
 use Rattle.ansi_columns.specs.Tabs.{expanded}
 use Rattle.ansi_columns.specs.Wrapped.{wrapped}
@@ -39,7 +39,7 @@ is_wrap change = false
 abbrev pub changed : Change → List ℕ → List (List ℕ)
 changed (Expanded stop) t = expanded stop t ∷ []
 changed (Sliced start end) t = sliced (cell t) start end ∷ []
-changed (Truncated width tail) t = truncated (cell t) width tail ∷ []
+changed (Truncated width tail) t = truncated (cell t) width (closed_cell tail) ∷ []
 changed (Padded width) t = padded (cell t) width Left ∷ []
 changed (Wrapped width) t = map (λ l. l.bytes) (wrapped t width)
 

@@ -340,9 +340,10 @@ def _index(name: str, word: str, words: Tuple[str, ...]) -> int:
 
 def truncate(text: str, width: int, tail: str = "", side: Side = "end") -> str:
     """The text truncated to `width` columns, on one line and safe: SGRs, clean links (OSC 8) and printing characters stay, TAB
-    and line ends become a blank, and the rest is left out. If it is truncated and the tail fits, the tail follows. Before the
-    tail, the link and then the style still open at the end of the text are closed. At the start or in the middle the columns
-    that stay are those of `slice_columns`, after the tail or on both sides of it. ValueError: the side is none of SIDES.
+    and line ends become a blank, and the rest is left out. If it is truncated and the tail fits, the tail follows, shown
+    as the text is, and closed. Before the tail, the link and then the style still open at the end of the text are closed. At
+    the start or in the middle the columns that stay are those of `slice_columns`, after the tail or on both sides of it.
+    ValueError: the side is none of SIDES.
 
     >>> truncate("\\x1b[31mabcdef\\x1b[39m", 4, "...")
     '\\x1b[31ma\\x1b[39m...'

@@ -16,7 +16,7 @@ ghost use Rattle.ansi_columns.specs.Columns.{columns};
 ghost use Rattle.ansi_columns.specs.Indents.{shown_indent, after_indent};
 ghost use Rattle.ansi_columns.specs.Indents.{wrapped_with, IsWrappedWith};
 
-use crate::shown::{Alignment, pad};
+use crate::shown::closed_cell;
 use crate::views::View;
 use crate::widths;
 use crate::wrap::{AnsiWrap, PushNext, has_next, wrap};
@@ -218,9 +218,8 @@ fn push_indent<A: Allocator + Copy, B: Allocator>(
     if indent.is_empty() {
         return Ok(());
     }
-    // As in `after_indent`, this closes its link and its style, and writes no blanks. An indent that
-    // has to be changed or closed is made with the allocator of the lines.
-    let shown = pad(alloc, indent, 0, Alignment::Left)?;
+    // An indent that has to be changed or closed is made with the allocator of the lines.
+    let shown = closed_cell(alloc, indent)?;
     out.push_str(shown.as_str())
 }
 
@@ -240,8 +239,7 @@ fn after_indent<'t, A: Allocator + Copy>(
     if indent.is_empty() {
         return Ok(line);
     }
-    // It isn't too narrow, so its link and its style are closed, and it gets no blanks.
-    let indent = pad(alloc, indent, 0, Alignment::Left)?;
+    let indent = closed_cell(alloc, indent)?;
     let mut out = String::with_capacity(alloc, indent.len().saturating_add(line.len()))?;
     out.push_str(indent.as_str())?;
     out.push_str(line.as_str())?;

@@ -19,5 +19,6 @@ pub fn right_cell(alloc: Global, text: &str, width: usize) -> Result<CowStr<'_>,
         IfOk result (λ c. columns (plain (cow_str_bytes c)) ≡ width) }
 {
     laws::fitted_is_as_wide();
+    laws::printable_tails_stay();
     fit(alloc, text, width, Alignment::Right, "...")
 }

@@ -1,53 +1,49 @@
-use Rattle.std.proofs.Common.{length, IsTrue, sym, ◌∙◌, ap, arith}
+use Rattle.std.proofs.Common.{◌≡◌, ◌↔◌, ◌+◌, ◌*◌, ◌≤◌, [], length, IfOk, IsTrue, sym, ◌∙◌, subst}
+use Rattle.std.specs.Cow.{cow_str_bytes, IsBorrowedStr}
+use Rattle.std.proofs.lemmas.Bool.{false≢true}
 use Rattle.std.proofs.lemmas.Result.{IfOk-weaker}
-use Rattle.std.proofs.lemmas.Bool.{true≢false}
-use Rattle.ansi_items.specs.Plain.{plain}
+use Rattle.ansi_style.specs.Written.{longest_start_and_close}
 use Rattle.ansi_safe.specs.Cells.{cell}
-use Rattle.ansi_safe.proofs.CellTextLemmas.{length-cell}
-use Rattle.ansi_columns.specs.Columns.{columns}
-use Rattle.ansi_columns.specs.Sides.{cut_before_end, is_cut_at_end}
-use Rattle.ansi_columns.proofs.SidesLemmas.{truncated-at_end, truncated-before_end}
+use Rattle.ansi_safe.specs.Links.{longest_link_end}
+use Rattle.ansi_columns.specs.Shown.{truncated_ending, KeptStays, closed_cell}
+use Rattle.ansi_columns.specs.Sides.{is_cut_at_end, truncated_at}
+use Rattle.ansi_columns.proofs.TailLemmas.{shown-cell, shown-truncated_at, shown-safe, shown-one_line, shown-closed}
 use Rattle.ansi_columns.proofs.sides.truncate_with.Goals as goal
 
--- the text is cut at its end
-
-pub returns-in_default-clause-bytes : goal.returns-in_default-clause-bytes
-returns-in_default-clause-bytes g c =
-    let to = c.args.to.now in
-    let at_end : IsTrue (is_cut_at_end to.side (cell c.args.text.now) to.width) = rw c.in_default.is at c.columns_cut.ensures in
-    IfOk-weaker c.truncate.result _ _ (λ s same. same ∙ sym (truncated-at_end to.side (cell c.args.text.now) to.width to.tail.now at_end)) c.truncate.ensures.bytes
-
-pub returns-in_default-clause-borrowed : goal.returns-in_default-clause-borrowed
-returns-in_default-clause-borrowed g c =
-    let to = c.args.to.now in
-    let at_end : IsTrue (is_cut_at_end to.side (cell c.args.text.now) to.width) = rw c.in_default.is at c.columns_cut.ensures in
-    IfOk-weaker c.truncate.result _ _ (λ s iff. (λ b. ((iff.0 b).0, at_end, (iff.0 b).1), λ all. iff.1 (all.0, all.2))) c.truncate.ensures.borrowed
-
-pub returns-in_default-clause-len : goal.returns-in_default-clause-len
-returns-in_default-clause-len g c = IfOk-weaker c.truncate.result _ _ (λ s most. omega (arith, most)) c.truncate.ensures.len
-
-pub returns-in_default-clause-takes_no_memory : goal.returns-in_default-clause-takes_no_memory
-returns-in_default-clause-takes_no_memory g c = λ all. c.truncate.ensures.takes_no_memory (all.0, all.2)
-
--- it is cut before its end
-
-pub returns-in_err-cell-clause-takes_no_memory : goal.returns-in_err-cell-clause-takes_no_memory
-returns-in_err-cell-clause-takes_no_memory g c = λ all. absurd (true≢false (sym all.1 ∙ c.in-Some.ensures.1))
-
-pub cut_before_end-requires : goal.cut_before_end-requires
-cut_before_end-requires g c = c.in-Some.ensures.0 ∙ ap (λ u. columns (plain u)) (sym (c.as_str.ensures.value ∙ c.in_ok-cell.ensures.bytes))
+-- the tail is a cell, closed
 
 pub returns-clause-bytes : goal.returns-clause-bytes
-returns-clause-bytes g c =
-    let to = c.args.to.now in
-    c.in_ok-cut_before_end.ensures.bytes ∙ ap (λ u. cut_before_end to.side u to.width to.tail.now) (c.as_str.ensures.value ∙ c.in_ok-cell.ensures.bytes)
-    ∙ sym (truncated-before_end to.side (cell c.args.text.now) to.width to.tail.now c.in-Some.ensures.1)
+returns-clause-bytes g c = subst (λ tail. IfOk c.truncate_with_beside.result (λ s. cow_str_bytes s ≡ truncated_at c.args.to.now.side (cell c.args.text.now) c.args.to.now.width tail)) (c.as_str.ensures.value ∙ c.in_ok-tail.ensures.bytes) c.truncate_with_beside.ensures.bytes
+
+pub returns-clause-safe : goal.returns-clause-safe
+returns-clause-safe g c =
+    let shown = shown-truncated_at c.args.text.now c.utf8.text c.args.to.now.width (closed_cell c.args.to.now.tail.now) (shown-cell c.args.to.now.tail.now c.closed_cell.ensures.utf8) c.args.to.now.side in
+    IfOk-weaker c.truncate_with_beside.result _ _ (λ s is. shown-safe shown is) (returns-clause-bytes g c)
+
+pub returns-clause-one_line : goal.returns-clause-one_line
+returns-clause-one_line g c =
+    let shown = shown-truncated_at c.args.text.now c.utf8.text c.args.to.now.width (closed_cell c.args.to.now.tail.now) (shown-cell c.args.to.now.tail.now c.closed_cell.ensures.utf8) c.args.to.now.side in
+    IfOk-weaker c.truncate_with_beside.result _ _ (λ s is. shown-one_line shown is) (returns-clause-bytes g c)
+
+pub returns-clause-closed : goal.returns-clause-closed
+returns-clause-closed g c =
+    let shown = shown-truncated_at c.args.text.now c.utf8.text c.args.to.now.width (closed_cell c.args.to.now.tail.now) (shown-cell c.args.to.now.tail.now c.closed_cell.ensures.utf8) c.args.to.now.side in
+    IfOk-weaker c.truncate_with_beside.result _ _ (λ s is. shown-closed shown is) (returns-clause-bytes g c)
 
 pub returns-clause-borrowed : goal.returns-clause-borrowed
-returns-clause-borrowed g c = (λ b. absurd b, λ all. absurd (true≢false (sym all.1 ∙ c.in-Some.ensures.1)))
+returns-clause-borrowed g c =
+    let t = c.args.text.now in
+    subst (λ tail. IfOk c.truncate_with_beside.result (λ s. IsBorrowedStr s ↔ (KeptStays t c.args.to.now.width tail × IsTrue (is_cut_at_end c.args.to.now.side (cell t) c.args.to.now.width) × (truncated_ending (cell t) c.args.to.now.width tail ≡ [])))) (c.as_str.ensures.value ∙ c.in_ok-tail.ensures.bytes) c.truncate_with_beside.ensures.borrowed
 
 pub returns-clause-len : goal.returns-clause-len
-returns-clause-len g c = omega (arith, c.in_ok-cut_before_end.ensures.len, ap length (c.as_str.ensures.value ∙ c.in_ok-cell.ensures.bytes), length-cell c.args.text.now c.utf8.text)
+returns-clause-len g c =
+    let t = c.args.text.now in
+    subst (λ tail. IfOk c.truncate_with_beside.result (λ s. length (cow_str_bytes s) ≤ 2 * length t + length tail + c.args.to.now.width + 2 * (longest_start_and_close + longest_link_end))) (c.as_str.ensures.value ∙ c.in_ok-tail.ensures.bytes) c.truncate_with_beside.ensures.len
 
-pub returns-in_err-cut_before_end-clause-takes_no_memory : goal.returns-in_err-cut_before_end-clause-takes_no_memory
-returns-in_err-cut_before_end-clause-takes_no_memory g c = λ all. absurd (true≢false (sym all.1 ∙ c.in-Some.ensures.1))
+pub returns-clause-takes_no_memory : goal.returns-clause-takes_no_memory
+returns-clause-takes_no_memory g c =
+    let t = c.args.text.now in
+    λ all. c.truncate_with_beside.ensures.takes_no_memory (subst (λ tail. KeptStays t c.args.to.now.width tail × IsTrue (is_cut_at_end c.args.to.now.side (cell t) c.args.to.now.width) × (truncated_ending (cell t) c.args.to.now.width tail ≡ [])) (sym (c.as_str.ensures.value ∙ c.in_ok-tail.ensures.bytes)) (all.2, all.3, all.4))
+
+pub returns-in_err-tail-clause-takes_no_memory : goal.returns-in_err-tail-clause-takes_no_memory
+returns-in_err-tail-clause-takes_no_memory g c = λ all. absurd (false≢true (rw c.in_err-tail.was at (c.closed_cell.ensures.takes_no_memory (all.0, all.1))))
