@@ -1,0 +1,10 @@
+pub mod RestLemmas
+pub mod MatchLemmas
+pub mod RangeLemmas
+pub mod OtherLemmas
+pub mod FrontLemmas
+pub mod ChangeLemmas
+pub mod RestyledLemmas
+pub mod RestyleWalkLemmas
+pub mod TurnLemmas
+pub mod EmptyLemmas

@@ -1,0 +1,118 @@
+-- The matches that are left after the first.
+use Rattle.std.proofs.Common.{◌≡◌, ℕ, zero, suc, ◌+◌, ◌<◌, ◌≤◌, max, inl, inr, Bool, true, false, Option, IsFalse, IsSome, List, [], ◌∷◌, length, map, filter, drop, nat_eq, nat_le, Some, None, refl, sym, ◌∙◌, ap, ap₂, subst, arith, IsTrue, if◌then◌else◌}
+use Rattle.std.specs.Option.{MatchOption}
+use Rattle.std.specs.List.{range_with_len, starts_with}
+use Rattle.std.specs.Str.{IsUtf8}
+use Rattle.std.proofs.lemmas.Bool.{and_from, and_parts, cases_lt, cond_both, le-leb, lt-leb}
+use Rattle.std.proofs.lemmas.List.{length-map}
+use Rattle.std.proofs.lemmas.List.FromFn.{length-range_with_len}
+use Rattle.std.proofs.lemmas.List.Sums.{length-filter, count_by-le-length}
+use Rattle.ansi_search.specs.Positions.{is_char_boundary, no_character_goes_on}
+use Rattle.ansi_search.proofs.MatchLemmas.{match_fits}
+use Rattle.ansi_search.proofs.FindLemmas.{HasTextAt-match}
+use Rattle.ansi_search.proofs.PositionLemmas.{no_character_goes_on-boundary}
+use Rattle.ansi_search.specs.Matches.{is_match, match_places, first_match_from}
+use Rattle.ansi_split.specs.Parts.{without_overlaps}
+use Rattle.ansi_split.proofs.TakenLemmas.{without_overlaps-none, is_first_taken}
+use Rattle.ansi_split.proofs.SpanLemmas.{match_is_good}
+use Rattle.ansi_restyle.specs.Ranges.{are_in_turn}
+use Rattle.ansi_restyle.specs.Matches.{matches, matches_left}
+
+-- the matches at these places, n bytes further on
+abbrev at_places : ℕ → List ℕ → List ℕ → List (ℕ × ℕ)
+at_places n p ms = map (λ m. (n + m, n + m + length p)) ms
+
+at_places-0 : (p ms : List ℕ) → at_places 0 p ms ≡ map (λ m. (m, m + length p)) ms
+at_places-0 p [] = refl
+at_places-0 p (m ∷ ms) =
+    let same : 0 + m ≡ m = omega arith in
+    ap₂ (λ k ks. (k, k + length p) ∷ ks) same (at_places-0 p ms)
+
+at_places-further : (n m : ℕ) (p ms : List ℕ) → at_places n p (map (λ k. m + k) ms) ≡ at_places (n + m) p ms
+at_places-further n m p [] = refl
+at_places-further n m p (k ∷ ms) =
+    let same : n + (m + k) ≡ n + m + k = omega arith in
+    ap₂ (λ i ks. (i, i + length p) ∷ ks) same (at_places-further n m p ms)
+
+pub matches_left-all : (x p : List ℕ) → matches_left 0 x p 0 ≡ matches x p
+matches_left-all x p = at_places-0 p (without_overlaps (length p) 0 (match_places x p))
+
+pub matches_left-none : (n : ℕ) (x p : List ℕ) (from : ℕ) → first_match_from x p from ≡ None → matches_left n x p from ≡ []
+matches_left-none n x p from none = ap (at_places n p) (without_overlaps-none (length p) from (match_places x p) none)
+
+pub matches_left-first : (n : ℕ) (x p : List ℕ) (from m : ℕ) → first_match_from x p from ≡ Some m
+    → matches_left n x p from ≡ (n + m, n + m + length p) ∷ matches_left (n + m) (drop m x) p (max (length p) 1)
+matches_left-first n x p from m found =
+    ap (at_places n p) (is_first_taken x p from m found).taken
+    ∙ ap (λ ks. (n + m, n + m + length p) ∷ ks) (at_places-further n m p (without_overlaps (length p) (max (length p) 1) (match_places (drop m x) p)))
+
+-- A match that is found is in x, at a good position.
+
+pub match_within : (x p : List ℕ) (from m : ℕ) → first_match_from x p from ≡ Some m → m ≤ length x
+match_within x p from m found = (is_first_taken x p from m found).inside
+
+pub match_ends_within : (x p : List ℕ) (from m : ℕ) → first_match_from x p from ≡ Some m → m + length p ≤ length x
+match_ends_within x [] from m found = (let inside = match_within x [] from m found in omega (arith, inside))
+match_ends_within x (b ∷ p) from m found = match_fits x (b ∷ p) m (omega arith) (is_first_taken x (b ∷ p) from m found).matches
+
+pub match_begins_good : (x p : List ℕ) (from m : ℕ) → first_match_from x p from ≡ Some m → IsTrue (no_character_goes_on x m)
+match_begins_good = match_is_good
+
+-- so what is divided there is something
+pub some_if_good : {A : Type 0} (r : Option A) (b : Bool) (Q : A → Type 0) → MatchOption r (IsFalse b) Q → IsTrue b → IsSome r
+some_if_good None b Q bad good = absurd (cc (bad, good))
+some_if_good (Some a) b Q is good = refl
+
+-- There is at most one match more than bytes.
+
+length-without_overlaps : (n e : ℕ) (ms : List ℕ) → length (without_overlaps n e ms) ≤ length ms
+length-without_overlaps n e [] = omega arith
+length-without_overlaps n e (m ∷ ms) = grind (arith, length-without_overlaps n (if nat_le e m then m + n else e) ms)
+
+pub length-matches_left : (n : ℕ) (x p : List ℕ) (from : ℕ) → length (matches_left n x p from) ≤ length x + 1
+length-matches_left n x p from =
+    let places = match_places x p in
+    let taken = without_overlaps (length p) from places in
+    let same : length (matches_left n x p from) ≡ length taken = length-map taken _ in
+    omega (arith, same, length-without_overlaps (length p) from places, length-filter (is_match x p) (range_with_len 0 (length x + 1)), count_by-le-length (is_match x p) (range_with_len 0 (length x + 1)), length-range_with_len 0 (length x + 1))
+
+-- The matches are ranges in turn.
+
+abbrev as_range : List ℕ → ℕ → ℕ × ℕ
+as_range p m = (m, m + length p)
+
+abbrev later_places : List ℕ → List ℕ → ℕ → ℕ → List ℕ
+later_places x p i k = filter (is_match x p) (range_with_len i k)
+
+in_turn-first : (x : List ℕ) (e : ℕ) (r : ℕ × ℕ) (rs : List (ℕ × ℕ)) → e ≤ r.0 → r.0 ≤ r.1 → IsTrue (no_character_goes_on x r.0) → IsTrue (no_character_goes_on x r.1) → are_in_turn x r.1 rs ≡ true → are_in_turn x e (r ∷ rs) ≡ true
+in_turn-first x e r rs begins ends good_start good_end later =
+    and_from _ _ (le-leb e r.0 begins) (and_from _ _ (le-leb r.0 r.1 ends) (and_from _ _ good_start (and_from _ _ good_end later)))
+
+taken_in_turn : (x p : List ℕ) → IsUtf8 x → IsUtf8 p → (i k e : ℕ) → e ≤ length x → are_in_turn x e (map (as_range p) (without_overlaps (length p) e (later_places x p i k))) ≡ true
+taken_in_turn x p utf8 utf8_p i zero e inside = le-leb e (length x) inside
+taken_in_turn x p utf8 utf8_p i (suc k) e inside =
+    let later = later_places x p (i + 1) k in
+    let goal : List ℕ → Type 0 = λ ks. are_in_turn x e (map (as_range p) (without_overlaps (length p) e ks)) ≡ true in
+    cond_both (is_match x p i) (i ∷ later) later goal
+    (λ is. (
+    let boundary = (HasTextAt-match x p i utf8 utf8_p is).after in
+    let fits : i + length p ≤ length x = boundary.0 in
+    let good = and_parts (nat_le i (length x)) (no_character_goes_on x i) (and_parts (is_char_boundary x i) (starts_with nat_eq (drop i x) p) is).0 in
+    elim (cases_lt i e) [
+      | inl before ↦
+          subst (λ ks. are_in_turn x e (map (as_range p) ks) ≡ true) (sym (without_overlaps-passed (length p) e i later before)) (taken_in_turn x p utf8 utf8_p (i + 1) k e inside)
+      | inr at ↦
+          subst (λ ks. are_in_turn x e (map (as_range p) ks) ≡ true) (sym (without_overlaps-taken (length p) e i later at))
+          (in_turn-first x e (i, i + length p) (map (as_range p) (without_overlaps (length p) (i + length p) later)) at (omega arith) good.1 (no_character_goes_on-boundary x (i + length p) boundary)
+          (taken_in_turn x p utf8 utf8_p (i + 1) k (i + length p) fits))
+    ]))
+    (λ no. taken_in_turn x p utf8 utf8_p (i + 1) k e inside)
+  where
+    without_overlaps-taken : (n e m : ℕ) (ms : List ℕ) → e ≤ m → without_overlaps n e (m ∷ ms) ≡ m ∷ without_overlaps n (m + n) ms
+    without_overlaps-taken n e m ms from = ap (λ b. if b then m ∷ without_overlaps n (if b then m + n else e) ms else without_overlaps n (if b then m + n else e) ms) (le-leb e m from)
+
+    without_overlaps-passed : (n e m : ℕ) (ms : List ℕ) → m < e → without_overlaps n e (m ∷ ms) ≡ without_overlaps n e ms
+    without_overlaps-passed n e m ms before = ap (λ b. if b then m ∷ without_overlaps n (if b then m + n else e) ms else without_overlaps n (if b then m + n else e) ms) (lt-leb e m before)
+
+pub matches_in_turn : (x p : List ℕ) → IsUtf8 x → IsUtf8 p → IsTrue (are_in_turn x 0 (matches x p))
+matches_in_turn x p utf8 utf8_p = taken_in_turn x p utf8 utf8_p 0 (length x + 1) 0 (omega arith)

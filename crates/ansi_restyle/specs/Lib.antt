@@ -1,0 +1,4 @@
+pub mod Rests
+pub mod Matches
+pub mod Ranges
+pub mod Restyled

@@ -1,0 +1,10 @@
+//! The matches of a pattern in a text, taken as if its sequences weren't there, and parts of a text
+//! in another style.
+//!
+//! Positions count the bytes of the plain text, as in `ansi_str`. `CALLING.md` beside this folder
+//! says how a crate depends on this one and calls it.
+#![tactic(auto)]
+
+pub mod matches;
+mod rest;
+pub mod restyle;

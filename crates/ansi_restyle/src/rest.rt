@@ -1,0 +1,91 @@
+//! What is left of a text.
+ghost use Rattle.std.specs.Prelude.{◌≡◌, take, drop, length, IfSome, IsFalse};
+ghost use Rattle.std.specs.Option.{MatchOption};
+ghost use Rattle.std.specs.Str.{IsCharBoundary};
+ghost use Rattle.ansi_items.specs.Plain.{plain, has_escape};
+ghost use Rattle.ansi_search.specs.Matches.{first_match_from};
+ghost use Rattle.ansi_search.specs.Positions.{no_character_goes_on};
+ghost use Rattle.ansi_style.specs.Reading.{style_within};
+ghost use Rattle.ansi_style.specs.States.{rendition_of};
+ghost use Rattle.ansi_restyle.specs.Rests.{IsDivided};
+
+use ansi_items::ansitok::{Kind, Scanner};
+use ansi_search::search;
+use ansi_style::state::Style;
+
+/// What is left of a text, and how many bytes at its front are known to be plain. So if many
+/// positions are in a run, its end isn't searched for at each of them.
+#[derive(Drop)]
+pub(crate) struct Rest<'t> {
+    pub(crate) text: &'t str,
+    run_len: usize,
+    ghost run_ends: { IsCharBoundary text.now run_len },
+    ghost run_is_plain: { IsFalse (has_escape (take run_len text.now)) },
+}
+
+/// A text in two.
+#[derive(Drop)]
+pub(crate) struct Divided<'t> {
+    /// The text before the position, with every sequence up to there.
+    pub(crate) front: &'t str,
+    pub(crate) rest: Rest<'t>,
+}
+
+impl<'t> Rest<'t> {
+    /// All of the text.
+    pub(crate) fn new(text: &'t str) -> Self
+        ensures { result.text.now ≡ text.entry.now }
+    {
+        let run_len = first_run_len(text);
+        Rest { text, run_len }
+    }
+
+    /// The first match of the pattern that doesn't begin before `from`, as a position of what is
+    /// left.
+    pub(crate) fn find(&self, pat: &str, from: usize) -> Option<usize>
+        ensures { result ≡ first_match_from (plain self.now.text.now) pat.now from }
+    {
+        let (run, _) = self.text.split_at(self.run_len);
+        match search::first_in_run(run, pat, from) {
+            Some(place) => Some(place),
+            None => search::find_from(self.text, pat, from),
+        }
+    }
+
+    /// The text in two at a position of what is left, or `None` if the position isn't good. A
+    /// position past the end counts as the end. Every SGR up to there changes the style.
+    pub(crate) fn split_at(&self, style: &mut Style, position: usize) -> Option<Divided<'t>>
+        ensures divided { MatchOption result
+            (IsFalse (no_character_goes_on (plain self.now.text.now) position)) (λ d.
+            IsDivided self.now.text.now position d.front.now d.rest.text.now) }
+        ensures style { IfSome result (λ _. rendition_of style.new
+            ≡ style_within (rendition_of style.old) self.now.text.now position) }
+    {
+        if position < self.run_len {
+            if !self.text.is_char_boundary(position) {
+                return None;
+            }
+            let (front, text) = self.text.split_at(position);
+            let run_len = self.run_len - position;
+            let rest = Rest { text, run_len };
+            return Some(Divided { front, rest });
+        }
+        let Some(offset) = search::walk_to(style, self.text, position) else {
+            return None;
+        };
+        let (front, text) = self.text.split_at(offset);
+        let rest = Rest::new(text);
+        Some(Divided { front, rest })
+    }
+}
+
+/// How long the run at the front of a text is.
+fn first_run_len(text: &str) -> usize
+    ensures ends { IsCharBoundary text.now result }
+    ensures plain { IsFalse (has_escape (take result text.now)) }
+{
+    match Scanner::new(text).next() {
+        Some(item) if item.kind == Kind::Text => item.end,
+        _ => 0,
+    }
+}
