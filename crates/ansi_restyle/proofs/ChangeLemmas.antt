@@ -1,5 +1,5 @@
 -- A whole text with each run changed: it is whole, and read in the style before it has its styled bytes changed, and leaves open what it did.
-use Rattle.std.proofs.Common.{◌≡◌, ℕ, Bool, true, List, [], ◌∷◌, ◌++◌, length, map, refl, sym, ◌∙◌, ap, ap₂, subst, arith, IsTrue, append_assoc, append-nil}
+use Rattle.std.proofs.Common.{◌≡◌, ℕ, true, List, [], ◌∷◌, ◌++◌, length, map, refl, sym, ◌∙◌, ap, ap₂, subst, arith, IsTrue, append_assoc}
 use Rattle.std.proofs.lemmas.Grind.{flat_map-append}
 use Rattle.std.proofs.lemmas.List.{map-append}
 use Rattle.std.proofs.lemmas.Bool.{and_from}
@@ -15,9 +15,9 @@ use Rattle.ansi_style.specs.Styled.{StyledByte}
 use Rattle.ansi_style.specs.Written.{written, written_all, start, start_codes, close, close_codes}
 use Rattle.ansi_style.proofs.SgrLemmas.{apply-known, apply-alike}
 use Rattle.ansi_style.proofs.StyleLemmas.{IsStyle-apply}
-use Rattle.ansi_style.proofs.StyledLemmas.{style_through, styled_through, styled_byte, in_style, style_through-append, styled_through-append, styled_from-pieces, style_after_from-pieces}
+use Rattle.ansi_style.proofs.StyledLemmas.{style_through, styled_through, in_style, style_through-append, styled_through-append, styled_from-pieces, style_after_from-pieces}
 use Rattle.ansi_style.proofs.SpelledLemmas.{styled_from-spelled, style_after_from-spelled, styled_from-append, style_after_from-append, styled_from-alike, style_after_from-alike}
-use Rattle.ansi_style.proofs.ReadBackLemmas.{AreCodes, apply_codes, apply_codes-append, code_pieces, spelled-code_pieces, code_pieces_stand, start_codes_are, close_codes_are, style_through-codes, styled_through-codes}
+use Rattle.ansi_style.proofs.ReadBackLemmas.{apply_codes, apply_codes-append, code_pieces, spelled-code_pieces, code_pieces_stand, start_codes_are, close_codes_are, style_through-codes, styled_through-codes}
 use Rattle.ansi_style.proofs.StartLemmas.{start_codes_set}
 use Rattle.ansi_style.proofs.CloseLemmas.{close_codes_clear}
 use Rattle.ansi_restyle.specs.Restyled.{is_change, changed_byte, changed_run, changed_pieces}

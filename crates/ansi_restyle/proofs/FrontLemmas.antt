@@ -1,5 +1,5 @@
 -- A whole text in two at a plain byte: both are whole, and the second is read in the style after the first.
-use Rattle.std.proofs.Common.{◌≡◌, ◌≢◌, ℕ, ◌+◌, ◌-◌, ◌<◌, ◌≤◌, inl, inr, Bool, true, List, [], ◌∷◌, ◌++◌, length, map, take, drop, refl, sym, ◌∙◌, ap, ap₂, subst, arith, IsTrue, append-nil, if◌then◌else◌, nat_lt}
+use Rattle.std.proofs.Common.{◌≡◌, ℕ, ◌-◌, ◌<◌, ◌≤◌, inl, inr, true, List, [], ◌∷◌, ◌++◌, length, take, drop, refl, sym, ◌∙◌, ap, subst, arith, IsTrue, append-nil, if◌then◌else◌, nat_lt}
 use Rattle.std.proofs.lemmas.Bool.{cases_lt, cond_both, lt-ltb, le-ltb}
 use Rattle.std.proofs.lemmas.List.{take-append-drop, take-append-le, length-take-le, length-map}
 use Rattle.std.proofs.lemmas.List.FromFn.{length-range_with_len}
@@ -11,7 +11,6 @@ use Rattle.ansi_items.proofs.PlainLemmas.{one_text}
 use Rattle.ansi_items.proofs.JoinLemmas.{spelled, AllStandAnywhere, is_whole-spelled, pieces_stand, spelled-pieces_of}
 use Rattle.ansi_style.specs.declared.state.rendition.Rendition.{Rendition}
 use Rattle.ansi_style.specs.Reading.{after_marks, style_after_from, style_within, styled_from}
-use Rattle.ansi_style.specs.Styled.{StyledByte}
 use Rattle.ansi_style.proofs.SpelledLemmas.{styled_from-append, style_after_from-append}
 use Rattle.ansi_search.specs.Offsets.{bytes_before, offset_of}
 use Rattle.ansi_search.proofs.SliceLemmas.{list_all-parts}

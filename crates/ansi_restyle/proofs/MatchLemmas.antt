@@ -1,5 +1,5 @@
 -- The matches that are left after the first.
-use Rattle.std.proofs.Common.{◌≡◌, ℕ, zero, suc, ◌+◌, ◌<◌, ◌≤◌, max, inl, inr, Bool, true, false, Option, IsFalse, IsSome, List, [], ◌∷◌, length, map, filter, drop, nat_eq, nat_le, Some, None, refl, sym, ◌∙◌, ap, ap₂, subst, arith, IsTrue, if◌then◌else◌}
+use Rattle.std.proofs.Common.{◌≡◌, ℕ, zero, suc, ◌+◌, ◌<◌, ◌≤◌, max, inl, inr, Bool, true, Option, IfSome, IsFalse, IsSome, List, [], ◌∷◌, length, map, filter, drop, nat_eq, nat_le, Some, None, refl, sym, ◌∙◌, ap, ap₂, subst, arith, IsTrue, if◌then◌else◌}
 use Rattle.std.specs.Option.{MatchOption}
 use Rattle.std.specs.List.{range_with_len, starts_with}
 use Rattle.std.specs.Str.{IsUtf8}
@@ -7,10 +7,10 @@ use Rattle.std.proofs.lemmas.Bool.{and_from, and_parts, cases_lt, cond_both, le-
 use Rattle.std.proofs.lemmas.List.{length-map}
 use Rattle.std.proofs.lemmas.List.FromFn.{length-range_with_len}
 use Rattle.std.proofs.lemmas.List.Sums.{length-filter, count_by-le-length}
-use Rattle.ansi_search.specs.Positions.{is_char_boundary, no_character_goes_on}
+use Rattle.ansi_search.specs.Positions.{is_char_boundary, is_good_range, no_character_goes_on}
 use Rattle.ansi_search.proofs.MatchLemmas.{match_fits}
 use Rattle.ansi_search.proofs.FindLemmas.{HasTextAt-match}
-use Rattle.ansi_search.proofs.PositionLemmas.{no_character_goes_on-boundary}
+use Rattle.ansi_search.proofs.PositionLemmas.{good_range_from, is_char_boundary-is, no_character_goes_on-boundary}
 use Rattle.ansi_search.specs.Matches.{is_match, match_places, first_match_from}
 use Rattle.ansi_split.specs.Parts.{without_overlaps}
 use Rattle.ansi_split.proofs.TakenLemmas.{without_overlaps-none, is_first_taken}
@@ -57,6 +57,14 @@ match_ends_within x (b ∷ p) from m found = match_fits x (b ∷ p) m (omega ari
 
 pub match_begins_good : (x p : List ℕ) (from m : ℕ) → first_match_from x p from ≡ Some m → IsTrue (no_character_goes_on x m)
 match_begins_good = match_is_good
+
+-- it is a good range
+pub match_good_range : (x p : List ℕ) (from : ℕ) (r : Option ℕ) → IsUtf8 x → IsUtf8 p → r ≡ first_match_from x p from → IfSome r (λ m. IsTrue (is_good_range x m (Some (m + length p))))
+match_good_range x p from None utf8 utf8_p found = tt
+match_good_range x p from (Some m) utf8 utf8_p found =
+    let is = (is_first_taken x p from m (sym found)).matches in
+    let begins = is_char_boundary-is x m (and_parts (is_char_boundary x m) (starts_with nat_eq (drop m x) p) is).0 in
+    good_range_from x m (m + length p) (omega arith) begins (HasTextAt-match x p m utf8 utf8_p is).after
 
 -- so what is divided there is something
 pub some_if_good : {A : Type 0} (r : Option A) (b : Bool) (Q : A → Type 0) → MatchOption r (IsFalse b) Q → IsTrue b → IsSome r

@@ -1,6 +1,6 @@
 -- How far a text that is changed has been written, and what a step is to it.
-use Rattle.std.proofs.Common.{◌≡◌, ℕ, ◌+◌, ◌-◌, ◌<◌, ◌≤◌, true, List, [], ◌∷◌, ◌++◌, length, drop, refl, sym, ◌∙◌, ap, ap₂, subst, arith, append_assoc}
-use Rattle.ansi_items.specs.Pieces.{Piece, Text, spelling, pieces_of}
+use Rattle.std.proofs.Common.{◌≡◌, ℕ, true, List, ◌∷◌, ◌++◌, refl, sym, ◌∙◌, ap, subst, append_assoc}
+use Rattle.ansi_items.specs.Pieces.{Piece, Text, spelling}
 use Rattle.ansi_items.specs.declared.ansitok.Kind.{Kind}
 use Rattle.ansi_items.proofs.StepLemmas.{is_mark, BeginsWithMark}
 use Rattle.ansi_style.specs.declared.state.rendition.Rendition.{Rendition}

@@ -1,18 +1,18 @@
 -- What is made of a whole text is the headline.
-use Rattle.std.proofs.Common.{◌≡◌, ℕ, ◌+◌, ◌-◌, ◌<◌, ◌≤◌, Bool, true, false, List, [], ◌∷◌, ◌++◌, length, map, take, drop, refl, sym, ◌∙◌, ap, ap₂, subst, arith, IsTrue, append_assoc, if◌then◌else◌}
+use Rattle.std.proofs.Common.{◌≡◌, ℕ, ◌+◌, ◌-◌, ◌≤◌, Bool, true, false, List, [], ◌∷◌, ◌++◌, length, map, drop, refl, sym, ◌∙◌, ap, ap₂, subst, arith, IsTrue, append_assoc, if◌then◌else◌}
 use Rattle.std.proofs.lemmas.List.{drop-drop, length-drop}
 use Rattle.ansi_items.specs.Pieces.{pieces_of}
 use Rattle.ansi_items.specs.Plain.{plain, is_whole}
 use Rattle.ansi_style.specs.declared.state.rendition.Rendition.{Rendition}
-use Rattle.ansi_style.specs.Rendition.{IsStyle, plain_style, known}
+use Rattle.ansi_style.specs.Rendition.{IsStyle, plain_style}
 use Rattle.ansi_style.specs.Reading.{styled_from, style_after_from, style_within}
-use Rattle.ansi_style.specs.Styled.{StyledByte, styled, unstyled, residue}
+use Rattle.ansi_style.specs.Styled.{StyledByte, styled, unstyled}
 use Rattle.ansi_style.specs.Written.{written}
 use Rattle.ansi_style.proofs.StyleLemmas.{IsStyle-plain_style, IsStyle-style_after_from}
 use Rattle.ansi_style.proofs.StyledLemmas.{unstyled-styled}
 use Rattle.ansi_restyle.specs.Ranges.{are_in_turn, is_in_any}
 use Rattle.ansi_restyle.specs.Restyled.{is_change, changed_byte, changed_within, changed_pieces, front, rest, restyled_from, restyled, IsRestyled}
-use Rattle.ansi_restyle.proofs.RangeLemmas.{AreFirst, are_first, in_turn-within, within-outside, within-parts}
+use Rattle.ansi_restyle.proofs.RangeLemmas.{are_first, in_turn-within, within-outside, within-parts}
 use Rattle.ansi_restyle.proofs.ChangeLemmas.{Reads, reads-itself, reads-append, reads-changed}
 use Rattle.ansi_restyle.proofs.FrontLemmas.{is_whole-front, is_whole-rest, style_after-front, styled_from-parts, style_after-parts, length-front, plain-rest, kept-parts}
 use Rattle.ansi_restyle.proofs.OtherLemmas.{kept_of, without_sgrs-kept}

@@ -1,5 +1,5 @@
 -- What is left of a text after a position. No public contract cites it.
-use Rattle.std.specs.Prelude.{◌≡◌, ℕ, List, length, take, drop, IsTrue}
+use Rattle.std.specs.Prelude.{◌≡◌, ℕ, List, take, drop, IsTrue}
 use Rattle.ansi_items.specs.Plain.{plain}
 use Rattle.ansi_search.specs.Positions.{no_character_goes_on}
 use Rattle.ansi_search.specs.Offsets.{offset_of}

@@ -5,6 +5,9 @@
 //! says how a crate depends on this one and calls it.
 #![tactic(auto)]
 
+pub mod calls;
 pub mod matches;
 mod rest;
 pub mod restyle;
+
+pub use calls::AnsiRestyle;

@@ -1,10 +1,13 @@
 //! Where a pattern occurs in a plain text.
-ghost use Rattle.std.specs.Prelude.{◌≡◌, ◌≤◌, ◌+◌, length, IsTrue};
+ghost use Rattle.std.specs.Prelude.{◌≡◌, ◌≤◌, ◌+◌, Some, length, IfSome, IsTrue};
 ghost use Rattle.ansi_items.specs.Plain.{plain};
+ghost use Rattle.ansi_search.specs.Matches.{first_match_from};
+ghost use Rattle.ansi_search.specs.Positions.{is_good_range};
 ghost use Rattle.ansi_restyle.specs.Matches.{matches};
 ghost use Rattle.ansi_restyle.specs.Ranges.{are_in_turn};
 
 use crate::rest::Rest;
+use ansi_search::search;
 use ansi_style::styles;
 use std::marker::Model;
 
@@ -77,4 +80,13 @@ impl<'t, 'p> Iterator for Matches<'t, 'p> {
         self.from = self.pat.len().max(1);
         Some((self.position, self.position + self.pat.len()))
     }
+}
+
+/// Like `AnsiRestyle::ansi_find_from`.
+pub fn find_from(text: &str, position: usize, pat: &str) -> Option<usize>
+    ensures first { result ≡ first_match_from (plain text.now) pat.now position }
+    ensures good { IfSome result (λ i.
+        IsTrue (is_good_range (plain text.now) i (Some (i + length pat.now)))) }
+{
+    search::find_from(text, pat, position)
 }

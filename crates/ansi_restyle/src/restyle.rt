@@ -7,9 +7,11 @@ ghost use Rattle.ansi_items.specs.Plain.{plain, is_whole};
 ghost use Rattle.ansi_items.specs.Sequences.{is_sgr};
 ghost use Rattle.ansi_style.specs.States.{rendition_of};
 ghost use Rattle.ansi_style.specs.Written.{written};
+ghost use Rattle.ansi_restyle.specs.Matches.{matches};
 ghost use Rattle.ansi_restyle.specs.Ranges.{are_in_turn, are_empty};
 ghost use Rattle.ansi_restyle.specs.Restyled.{is_change, changed_run, changed_pieces, restyled, IsRestyled};
 
+use crate::matches::Matches;
 use crate::rest::Rest;
 use ansi_items::ansitok::{Kind, Scanner};
 use ansi_search::search;
@@ -53,6 +55,51 @@ pub fn restyle_in<'t, A: Allocator + Copy>(
     let mut restyled = String::with_capacity(alloc, text.len())?;
     push_restyled(&mut restyled, text, ranges, change.as_str())?;
     Ok(Some(CowStr::Owned(restyled)))
+}
+
+/// Like `AnsiRestyle::ansi_mark`, with a result that lives as long as the text, and with any
+/// allocator.
+///
+/// ```
+/// let marked = mark_in(rt.alloc(), "a \x1b[1mmat\x1b[0mch", "match", "7");
+/// assert!(rt; matches!(&marked, Ok(Some(marked)) if marked.as_str() == "a \x1b[1m\x1b[7mmat\x1b[22m\x1b[27m\x1b[1m\x1b[0m\x1b[7mch\x1b[27m"));
+/// ```
+pub fn mark_in<'t, A: Allocator + Copy>(
+    alloc: A,
+    text: &'t str,
+    pat: &str,
+    codes: &str,
+) -> Result<Option<CowStr<'t, A>>, AllocError>
+    ensures headline { IsTrue (is_whole text.now) → IfOk result (λ o. IfSome o (λ c. IsRestyled
+        text.now (written codes.now) (matches (plain text.now) pat.now) (cow_str_bytes c))) }
+    ensures none { IfOk result (λ o. IsNone o ↔ IsFalse (is_change codes.now)) }
+    ensures bytes { IfOk result (λ o. IfSome o (λ c. cow_str_bytes c
+        ≡ restyled text.now (written codes.now) (matches (plain text.now) pat.now))) }
+    ensures borrowed { IfOk result (λ o. IfSome o (λ c.
+        IsBorrowedStr c ↔ IsTrue (are_empty (matches (plain text.now) pat.now)))) }
+    ensures takes_no_memory { IsFalse (is_change codes.now) → IsOk result }
+{
+    if !is_change(codes) {
+        return Ok(None);
+    }
+    let ranges = matches_of(alloc, text, pat)?;
+    restyle_in(alloc, text, ranges.as_slice(), codes)
+}
+
+/// The matches of a pattern in a text.
+fn matches_of<A: Allocator>(
+    alloc: A,
+    text: &str,
+    pat: &str,
+) -> Result<Vec<(usize, usize), A>, AllocError>
+    ensures matches { IfOk result (λ v. v.items ≡ matches (plain text.now) pat.now) }
+    ensures in_turn { IsTrue (are_in_turn (plain text.now) 0 (matches (plain text.now) pat.now)) }
+{
+    let mut ranges = Vec::new(alloc);
+    for range in Matches::new(text, pat) {
+        ranges.push(range)?;
+    }
+    Ok(ranges)
 }
 
 /// Whether the text is a list of SGR codes.

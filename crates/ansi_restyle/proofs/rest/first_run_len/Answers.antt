@@ -1,4 +1,4 @@
-use Rattle.std.proofs.Common.{◌≡◌, ◌-◌, ◌∙◌, refl, sym, ap, subst, take, drop, arith, IsFalse, false}
+use Rattle.std.proofs.Common.{◌≡◌, ◌-◌, ◌∙◌, refl, ap, subst, take, drop, arith, false}
 use Rattle.std.specs.List.{slice_range}
 use Rattle.ansi_items.specs.Plain.{has_escape}
 use Rattle.ansi_items.specs.Scans.{pieces_left}

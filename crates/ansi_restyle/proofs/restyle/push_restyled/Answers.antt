@@ -1,4 +1,4 @@
-use Rattle.std.proofs.Common.{ℕ, ◌+◌, ◌-◌, drop}
+use Rattle.std.proofs.Common.{◌+◌, ◌-◌, drop}
 use Rattle.std.proofs.lemmas.List.{drop_more}
 use Rattle.std.specs.List.{slice_index_or}
 use Rattle.ansi_restyle.specs.Rests.{IsDivided}

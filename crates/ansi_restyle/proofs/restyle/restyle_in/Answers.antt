@@ -1,9 +1,7 @@
-use Rattle.std.proofs.Common.{◌≡◌, ◌++◌, sym, ◌∙◌, ap₂, subst, IsTrue, true, string_bytes}
+use Rattle.std.proofs.Common.{◌≡◌, ◌++◌, sym, ◌∙◌, ap₂, subst, IsTrue, string_bytes}
 use Rattle.ansi_items.specs.Sequences.{is_sgr}
-use Rattle.ansi_items.specs.Plain.{plain}
 use Rattle.ansi_style.specs.Written.{written}
-use Rattle.ansi_restyle.specs.Ranges.{are_in_turn}
-use Rattle.ansi_restyle.specs.Restyled.{is_change, restyled, IsRestyled}
+use Rattle.ansi_restyle.specs.Restyled.{restyled, IsRestyled}
 use Rattle.ansi_restyle.proofs.OtherLemmas.{change_is_sgr}
 use Rattle.ansi_restyle.proofs.RestyledLemmas.{is_restyled}
 use Rattle.ansi_restyle.proofs.EmptyLemmas.{restyled-empty}

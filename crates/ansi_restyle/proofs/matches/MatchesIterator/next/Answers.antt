@@ -1,7 +1,6 @@
-use Rattle.std.proofs.Common.{◌≡◌, ℕ, ◌+◌, ◌≤◌, List, ◌∷◌, Some, length, drop, sym, ◌∙◌, ap, ap₂, arith, max}
+use Rattle.std.proofs.Common.{◌≡◌, ℕ, ◌+◌, List, ◌∷◌, length, drop, sym, ◌∙◌, ap, ap₂, arith}
 use Rattle.std.proofs.lemmas.List.{length-drop}
 use Rattle.ansi_items.specs.Plain.{plain}
-use Rattle.ansi_search.specs.Matches.{first_match_from}
 use Rattle.ansi_restyle.specs.Matches.{matches_left}
 use Rattle.ansi_restyle.specs.Rests.{IsDivided}
 use Rattle.ansi_restyle.proofs.FrontLemmas.{plain-rest}

@@ -1,0 +1,139 @@
+//! The calls on any text.
+ghost use Rattle.std.specs.Prelude.{◌≡◌, ◌≤◌, ◌+◌, ◌↔◌, ◌⊎◌, ◌&&◌, Some, length, IfOk, IfSome};
+ghost use Rattle.std.specs.Prelude.{IsFalse, IsNone, IsOk, IsTrue};
+ghost use Rattle.std.specs.Cow.{cow_str_bytes, IsBorrowedStr};
+ghost use Rattle.ansi_items.specs.Plain.{plain, is_whole};
+ghost use Rattle.ansi_search.specs.Matches.{first_match_from};
+ghost use Rattle.ansi_search.specs.Positions.{is_good_range};
+ghost use Rattle.ansi_style.specs.Written.{written};
+ghost use Rattle.ansi_restyle.specs.Matches.{matches};
+ghost use Rattle.ansi_restyle.specs.Ranges.{are_in_turn, are_empty};
+ghost use Rattle.ansi_restyle.specs.Restyled.{is_change, restyled, IsRestyled};
+
+use crate::matches::{Matches, find_from};
+use crate::restyle::{mark_in, restyle_in};
+use ansi_str::AnsiStr;
+use std::alloc::{AllocError, Global};
+use std::borrow::CowStr;
+
+/// The matches of a pattern in a text, and parts of a text in another style.
+///
+/// Implemented for every type that implements [`AnsiStr`]. The results depend on the text alone,
+/// not on its type.
+///
+/// ```
+/// let marked = "one \x1b[32mtwo\x1b[39m".ansi_mark(rt.alloc(), "two", "1");
+/// assert!(rt; matches!(&marked, Ok(Some(marked)) if marked.as_str() == "one \x1b[32m\x1b[1mtwo\x1b[22m\x1b[39m\x1b[32m\x1b[39m"));
+/// ```
+pub trait AnsiRestyle: AnsiStr {
+    /// The matches of a pattern, in order: an iterator over pairs of positions, where each match
+    /// begins and ends. (std's `match_indices`, on the plain text.)
+    ///
+    /// A match may run across sequences. Matches don't overlap. An empty pattern matches at each
+    /// character boundary, a pattern with an ESC nowhere. Positions count bytes of the plain text.
+    /// They are good positions, in order, so that `ansi_restyle` takes the pairs as ranges. Takes
+    /// time in proportion to the text and the pattern. Doesn't allocate.
+    ///
+    /// ```
+    /// let mut matches = "a\x1b[1mba\x1b[0mb".ansi_matches("ab");
+    /// assert!(rt; matches.next() == Some((0, 2)) && matches.next() == Some((2, 4)));
+    /// assert!(rt; matches.next().is_none());
+    /// ```
+    final fn ansi_matches<'t, 'p>(&'t self, pat: &'p str) -> Matches<'t, 'p>
+        ensures matches { result ≡ matches (plain (Self.text self.now)) pat.now }
+        ensures in_turn { IsTrue (are_in_turn (plain (Self.text self.now)) 0 result) }
+        ensures len { length result ≤ length (plain (Self.text self.now)) + 1 }
+    {
+        Matches::new(self.as_text(), pat)
+    }
+
+    /// The first match of a pattern that doesn't begin before a position, as `ansi_find` returns
+    /// it, or `None` if there is none.
+    ///
+    /// The position and the result count bytes of the plain text. The position may be inside a
+    /// character, or past the end. The match is a good range, so it can be cut. Doesn't allocate.
+    /// (std's `find`, on the rest of the plain text.)
+    ///
+    /// ```
+    /// assert!(rt; "ab\x1b[1mab".ansi_find_from(1, "ab") == Some(2));
+    /// assert!(rt; "ab\x1b[1mab".ansi_find_from(3, "ab").is_none());
+    /// ```
+    final fn ansi_find_from(&self, position: usize, pat: &str) -> Option<usize>
+        ensures first { result ≡ first_match_from (plain (Self.text self.now)) pat.now position }
+        ensures good { IfSome result (λ i. IsTrue
+            (is_good_range (plain (Self.text self.now)) i (Some (i + length pat.now)))) }
+    {
+        find_from(self.as_text(), position, pat)
+    }
+
+    /// The text with SGR codes applied to each character in the ranges.
+    ///
+    /// The codes are the parameter bytes of an SGR: digits, `:` and `;` between the codes, such as
+    /// `1;31`. In a range, each character has its own style after these codes. So `1` makes it bold
+    /// and keeps its color, `22` makes it neither bold nor faint, and `0` makes it plain. All other
+    /// characters keep their styles. The plain text, links and every other sequence stay.
+    ///
+    /// A range is a pair of positions, which count bytes of the plain text. The ranges have to be in
+    /// order and mustn't overlap. It is `None` exactly if a range isn't between two character
+    /// boundaries, or begins before the one before it ends, or if the codes have another byte.
+    ///
+    /// It is a borrow if each range is empty. A borrow and a `None` don't allocate. Otherwise it is
+    /// owned. `Err` means out of memory. Takes time in proportion to the text and the ranges. (Own.)
+    ///
+    /// ```
+    /// let marked = "red \x1b[31mred".ansi_restyle(rt.alloc(), &[(0, 2), (5, 6)], "4");
+    /// assert!(rt; matches!(&marked, Ok(Some(marked)) if marked.as_str() == "\x1b[4mre\x1b[24md \x1b[31mr\x1b[4me\x1b[24m\x1b[39m\x1b[31md"));
+    /// ```
+    final fn ansi_restyle(
+        &self,
+        alloc: Global,
+        ranges: &[(usize, usize)],
+        codes: &str,
+    ) -> Result<Option<CowStr<'_>>, AllocError>
+        ensures headline { IsTrue (is_whole (Self.text self.now)) → IfOk result (λ o.
+            IfSome o (λ c. IsRestyled (Self.text self.now) (written codes.now) ranges.now
+            (cow_str_bytes c))) }
+        ensures none { IfOk result (λ o. IsNone o ↔ IsFalse
+            (is_change codes.now && are_in_turn (plain (Self.text self.now)) 0 ranges.now)) }
+        ensures bytes { IfOk result (λ o. IfSome o (λ c.
+            cow_str_bytes c ≡ restyled (Self.text self.now) (written codes.now) ranges.now)) }
+        ensures borrowed { IfOk result (λ o. IfSome o (λ c.
+            IsBorrowedStr c ↔ IsTrue (are_empty ranges.now))) }
+        ensures takes_no_memory { IsTrue (are_empty ranges.now) ⊎ IsFalse
+            (is_change codes.now && are_in_turn (plain (Self.text self.now)) 0 ranges.now) →
+            IsOk result }
+    {
+        restyle_in(alloc, self.as_text(), ranges, codes)
+    }
+
+    /// The text with SGR codes applied to each match of a pattern, as `ansi_restyle` does it.
+    ///
+    /// It is `None` exactly if the codes have a byte other than a digit, `:` and `;`. It is a borrow
+    /// if nothing matches, or the pattern is empty. `Err` means out of memory. (Own.)
+    ///
+    /// ```
+    /// let marked = "to do: \x1b[1mdo".ansi_mark(rt.alloc(), "do", "7");
+    /// assert!(rt; matches!(&marked, Ok(Some(marked)) if marked.as_str() == "to \x1b[7mdo\x1b[27m: \x1b[1m\x1b[7mdo\x1b[22m\x1b[27m\x1b[1m"));
+    /// ```
+    final fn ansi_mark(
+        &self,
+        alloc: Global,
+        pat: &str,
+        codes: &str,
+    ) -> Result<Option<CowStr<'_>>, AllocError>
+        ensures headline { IsTrue (is_whole (Self.text self.now)) → IfOk result (λ o.
+            IfSome o (λ c. IsRestyled (Self.text self.now) (written codes.now)
+            (matches (plain (Self.text self.now)) pat.now) (cow_str_bytes c))) }
+        ensures none { IfOk result (λ o. IsNone o ↔ IsFalse (is_change codes.now)) }
+        ensures bytes { IfOk result (λ o. IfSome o (λ c.
+            cow_str_bytes c ≡ restyled (Self.text self.now) (written codes.now)
+            (matches (plain (Self.text self.now)) pat.now))) }
+        ensures borrowed { IfOk result (λ o. IfSome o (λ c. IsBorrowedStr c
+            ↔ IsTrue (are_empty (matches (plain (Self.text self.now)) pat.now)))) }
+        ensures takes_no_memory { IsFalse (is_change codes.now) → IsOk result }
+    {
+        mark_in(alloc, self.as_text(), pat, codes)
+    }
+}
+
+impl<T: AnsiStr> AnsiRestyle for T {}
