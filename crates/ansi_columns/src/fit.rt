@@ -11,7 +11,9 @@ ghost use Rattle.ansi_columns.specs.OneLine.{is_one_line};
 ghost use Rattle.ansi_columns.specs.Shown.{truncated_ending, truncated, KeptStays, missing, closing};
 ghost use Rattle.ansi_columns.specs.Shown.{closed_cell};
 
-use crate::shown::{Alignment, TruncatedParts, closed_cell, pad_cell, truncated_parts, write_shown};
+use crate::shown::{
+    Alignment, TruncatedParts, closed_cell, pad_cell, truncated_parts, write_shown,
+};
 use ansi_safe::links::pen_after;
 use std::alloc::{AllocError, Allocator};
 use std::borrow::CowStr;

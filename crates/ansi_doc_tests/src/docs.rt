@@ -7,6 +7,7 @@ mod edits;
 mod library;
 mod parts;
 mod ranges;
+mod restyle;
 mod safe;
 mod scanner;
 mod slices;

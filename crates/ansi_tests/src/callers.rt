@@ -5,6 +5,7 @@ pub mod buffers;
 pub mod chains;
 pub mod edits;
 pub mod laws;
+pub mod marks;
 pub mod matches;
 pub mod modules;
 pub mod parts;

@@ -1,0 +1,65 @@
+//! The examples of the docs of `ansi_restyle`, in the same words.
+use ansi_restyle::AnsiRestyle;
+use ansi_restyle::matches::Matches;
+use ansi_restyle::restyle::{mark_in, restyle_in};
+
+#[test]
+fn matches_example(rt: HostRuntime) {
+    let mut matches = Matches::new("a\x1b[1mba\x1b[0mb", "ab");
+    assert!(rt; matches.next() == Some((0, 2)));
+    assert!(rt; matches.next() == Some((2, 4)));
+    assert!(rt; matches.next() == None);
+}
+
+#[test]
+fn restyle_in_example(rt: HostRuntime) {
+    let marked = restyle_in(rt.alloc(), "a \x1b[31mred\x1b[39m b", &[(0, 3)], "7");
+    assert!(rt;
+        matches!(&marked, Ok(Some(marked)) if marked.as_str() == "\x1b[7ma \x1b[27m\x1b[31m\x1b[7mr\x1b[27m\x1b[39m\x1b[31med\x1b[39m b")
+    );
+}
+
+#[test]
+fn mark_in_example(rt: HostRuntime) {
+    let marked = mark_in(rt.alloc(), "a \x1b[1mmat\x1b[0mch", "match", "7");
+    assert!(rt;
+        matches!(&marked, Ok(Some(marked)) if marked.as_str() == "a \x1b[1m\x1b[7mmat\x1b[22m\x1b[27m\x1b[1m\x1b[0m\x1b[7mch\x1b[27m")
+    );
+}
+
+#[test]
+fn ansi_restyle_trait_example(rt: HostRuntime) {
+    let marked = "one \x1b[32mtwo\x1b[39m".ansi_mark(rt.alloc(), "two", "1");
+    assert!(rt;
+        matches!(&marked, Ok(Some(marked)) if marked.as_str() == "one \x1b[32m\x1b[1mtwo\x1b[22m\x1b[39m\x1b[32m\x1b[39m")
+    );
+}
+
+#[test]
+fn ansi_matches_example(rt: HostRuntime) {
+    let mut matches = "a\x1b[1mba\x1b[0mb".ansi_matches("ab");
+    assert!(rt; matches.next() == Some((0, 2)) && matches.next() == Some((2, 4)));
+    assert!(rt; matches.next().is_none());
+}
+
+#[test]
+fn ansi_find_from_example(rt: HostRuntime) {
+    assert!(rt; "ab\x1b[1mab".ansi_find_from(1, "ab") == Some(2));
+    assert!(rt; "ab\x1b[1mab".ansi_find_from(3, "ab").is_none());
+}
+
+#[test]
+fn ansi_restyle_example(rt: HostRuntime) {
+    let marked = "red \x1b[31mred".ansi_restyle(rt.alloc(), &[(0, 2), (5, 6)], "4");
+    assert!(rt;
+        matches!(&marked, Ok(Some(marked)) if marked.as_str() == "\x1b[4mre\x1b[24md \x1b[31mr\x1b[4me\x1b[24m\x1b[39m\x1b[31md")
+    );
+}
+
+#[test]
+fn ansi_mark_example(rt: HostRuntime) {
+    let marked = "to do: \x1b[1mdo".ansi_mark(rt.alloc(), "do", "7");
+    assert!(rt;
+        matches!(&marked, Ok(Some(marked)) if marked.as_str() == "to \x1b[7mdo\x1b[27m: \x1b[1m\x1b[7mdo\x1b[22m\x1b[27m\x1b[1m")
+    );
+}
