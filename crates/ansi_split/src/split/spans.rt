@@ -13,10 +13,12 @@ ghost use Rattle.ansi_split.specs.Spans.{parts_left};
 
 use crate::split::rest::Rest;
 use crate::walks::PartWalk;
+use ansi_items::ESC;
 use ansi_items::ansitok::{Kind, Scanner};
 use ansi_style::numbers::StyleNumbers;
 use ansi_style::state::Style;
 use ansi_style::styles;
+use memchr::memchr;
 use std::alloc::{AllocError, Allocator};
 use std::borrow::CowStr;
 use std::marker::Model;
@@ -141,7 +143,8 @@ fn write_text<A: Allocator>(
         ++ interleaved (plain text.now) skip (length (plain text.now)) (marks text.now)) }
     ensures kept { KeepsText (string_bytes part.old) (string_bytes part.new) }
 {
-    if !is_marked {
+    if !is_marked || memchr(ESC, &text.as_bytes()[..skip]).is_none() {
+        // Sequences come only after the bytes that are left out.
         return part.push_str(&text[skip..]);
     }
     for item in Scanner::new(text) {
