@@ -91,6 +91,9 @@ module _ (t : List ℕ) (utf8 : IsUtf8 t) (w : Walk) (from : IsWalk t w) where
     pub blank-other : (c : ℕ) → IsNext t w c → c ≢ 0x20 → is_blank here ≡ false
     blank-other c next other = is_blank-other here (λ e. other (first_is c next e))
 
+    pub blank-long : v.position - w.position ≢ 1 → is_blank here ≡ false
+    blank-long more = is_blank-other here (λ e. more (sym bytes_are ∙ ap (λ u. length (encode_utf8_all u)) e ∙ encode_utf8_all-one_byte 0x20 (omega arith)))
+
     pub blank-len : IsNext t w 0x20 → is_blank here ≡ (v.position - w.position == 1)
     blank-len next = ⊎_elim
         (λ one. is_blank-space here (alone 0x20 next v.position (omega (arith, one, ordered, encode_utf8-one_byte 0x20 (omega arith)))) ∙ sym (eq-eqb (v.position - w.position) 1 one))
@@ -102,6 +105,11 @@ module _ (t : List ℕ) (utf8 : IsUtf8 t) (w : Walk) (from : IsWalk t w) where
 
     pub line_end-other : (c : ℕ) → IsNext t w c → c ≢ 0x0A → c ≢ 0x0D → is_line_end here ≡ false
     line_end-other c next not_feed not_return = not_line_end here (λ e. not_feed (first_is c next e)) (λ e. not_return (first_is c next e))
+
+    pub line_end-long : v.position - w.position ≢ 1 → v.position - w.position ≢ 2 → is_line_end here ≡ false
+    line_end-long not_one not_two =
+        not_line_end here (λ e. not_one (sym bytes_are ∙ ap (λ u. length (encode_utf8_all u)) e ∙ encode_utf8_all-one_byte 0x0A (omega arith)))
+        (λ e. not_two (sym bytes_are ∙ ap (λ u. length (encode_utf8_all u)) e ∙ encode_utf8_all-two_bytes 0x0D 0x0A (omega arith) (omega arith)))
 
     pub line_end-feed : IsNext t w 0x0A → is_line_end here ≡ (v.position - w.position == 1)
     line_end-feed next = ⊎_elim

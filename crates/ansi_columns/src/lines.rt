@@ -179,6 +179,9 @@ fn words_after(
         return (end_before, word, end);
     }
     let bytes = &text.as_bytes()[here.offset..here.offset + len];
+    if len == 1 && bytes[0] == b' ' {
+        return (end, after, end);
+    }
     let Some(blank) = memrchr(b' ', bytes) else {
         return (end_before, word, after);
     };
@@ -219,6 +222,10 @@ fn is_line_end(text: &str, here: &Walk, next: &Walk) -> bool
     ensures { result ≡ is_line_end (cluster text.now here.now.position next.now.position) }
 {
     let len = next.position - here.position;
+    if 2 < len {
+        // This saves decoding most characters that aren't ASCII.
+        return false;
+    }
     match here.next_char(text) {
         Some('\n') => len == 1,
         Some('\r') if len == 2 => matches!(here.past(text, '\r').next_char(text), Some('\n')),
@@ -233,8 +240,5 @@ fn is_blank(text: &str, here: &Walk, next: &Walk) -> bool
     requires ordered { here.now.position < next.now.position }
     ensures { result ≡ is_blank (cluster text.now here.now.position next.now.position) }
 {
-    match here.next_char(text) {
-        Some(' ') => next.position - here.position == 1,
-        _ => false,
-    }
+    next.position - here.position == 1 && matches!(here.next_char(text), Some(' '))
 }

@@ -3,8 +3,13 @@ use Rattle.std.proofs.lemmas.Bool.Decides.{nat_tests}
 use Rattle.ansi_columns.specs.declared.views.View.TheVariants.{Given}
 use Rattle.ansi_columns.specs.Walks.{after, IsNext}
 use Rattle.ansi_columns.proofs.WalkLemmas.{after-past}
-use Rattle.ansi_columns.proofs.KindLemmas.{line_end-none, line_end-other, line_end-feed, return-len, return-none, return-other, return-feed}
+use Rattle.ansi_columns.proofs.KindLemmas.{line_end-none, line_end-other, line_end-long, line_end-feed, return-len, return-none, return-other, return-feed}
 use Rattle.ansi_columns.proofs.lines.is_line_end.Goals as goal
+
+pub returns-then-len-gt2 : goal.returns-then-len-gt2
+returns-then-len-gt2 c =
+    sym (line_end-long c.args.text.now c.utf8.text c.args.here.now c.requires.here c.args.next.now c.requires.next c.requires.ordered
+    (λ e. omega (arith, c.if-len-gt2.true, e)) (λ e. omega (arith, c.if-len-gt2.true, e)))
 
 pub returns-in-Some-eq10 : goal.returns-in-Some-eq10
 returns-in-Some-eq10 c =

@@ -81,3 +81,6 @@ returns-clause-word c = c.past_printable.ensures.walk Given c.requires.here
 
 pub returns-clause-end : goal.returns-clause-end
 returns-clause-end c = c.requires.after.walk Given c.requires.here
+
+pub returns-then-bytes-eq32-clause-word : goal.returns-then-bytes-eq32-clause-word
+returns-then-bytes-eq32-clause-word c = c.requires.after.walk Given c.requires.here
