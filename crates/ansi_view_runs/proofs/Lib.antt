@@ -5,4 +5,8 @@ pub mod Shown
 pub mod Viewed
 pub mod StayLemmas
 pub mod JoinLemmas
+pub mod SequenceLemmas
+pub mod ExpandedLemmas
+pub mod ChangeLemmas
+pub mod AskedLemmas
 pub mod SafeViewLemmas

@@ -1,6 +1,6 @@
 -- What is written of an input is safe.
-use Rattle.std.proofs.Common.{◌≡◌, ◌⊎◌, inl, inr, ℕ, zero, suc, ◌+◌, ◌-◌, ◌≤◌, ◌<◌, ◌==◌, ◌&&◌, Bool, true, false, cond, List, [], ◌∷◌, ◌++◌, take, drop, length, codes, chars, nat_lt, slice_index, encode_utf8_all, flat_map, if◌then◌else◌, Option, Some, None, unwrap_or, refl, sym, ◌∙◌, ap, subst, arith}
-use Rattle.std.specs.List.{list_all, position_or_len}
+use Rattle.std.proofs.Common.{◌≡◌, ◌⊎◌, inl, inr, ℕ, zero, suc, ◌+◌, ◌-◌, ◌≤◌, ◌<◌, ◌==◌, ◌&&◌, ◌||◌, Bool, true, false, All, cond, List, [], ◌∷◌, ◌++◌, take, drop, length, codes, chars, nat_lt, slice_index, encode_utf8_all, flat_map, if◌then◌else◌, Option, Some, None, unwrap_or, refl, sym, ◌∙◌, ap, subst, arith}
+use Rattle.std.specs.List.{AllByRecursion, list_all, position_or_len, join_by}
 use Rattle.std.specs.Str.{IsUtf8, is_utf8, byte}
 use Rattle.std.specs.Int.{is_in_range}
 use Rattle.std.specs.Str.Lossy.{utf8_valid_len, valid_len_up_to, utf8_lossy, utf8_invalid_len, utf8_error_len, error_len_of_some, error_len_after_one, error_len_after_two, second_byte_min, second_byte_max, after_first_chunk, replacement_bytes}
@@ -8,23 +8,27 @@ use Rattle.std.proofs.lemmas.Bool.{cases_Bool, cases_lt, and_from, and_parts}
 use Rattle.std.proofs.lemmas.Bool.Decides.{nat_tests}
 use Rattle.std.proofs.lemmas.Grind.{flat_map-append}
 use Rattle.std.proofs.lemmas.List.{length-drop, take_all}
+use Rattle.std.proofs.lemmas.List.Elements.{recursion_from_All}
 use Rattle.std.proofs.lemmas.Str.{IsUtf8-append, IsUtf8-nil, IsUtf8-from_ascii, IsUtf8-from_is_utf8, utf8_lossy-IsUtf8, utf8_lossy_step, scalars-chars}
 use Rattle.ansi_items.specs.Pieces.{Piece, Text, Sequence, LoneEscape, spelling, ArePieces, pieces_of}
 use Rattle.ansi_items.specs.Plain.{plain, marks}
+use Rattle.ansi_items.specs.Sequences.{is_sgr}
 use Rattle.ansi_items.proofs.JoinLemmas.{spelled}
 use Rattle.ansi_items.proofs.PieceLemmas.{pieces_are}
 use Rattle.ansi_items.proofs.PlainLemmas.{one_text}
 use Rattle.ansi_items.proofs.Utf8Lemmas.{IsUtf8-plain}
+use Rattle.ansi_style.specs.declared.state.rendition.Rendition.{Rendition}
 use Rattle.ansi_style.specs.Styled.{style_after}
-use Rattle.ansi_style.specs.Written.{start, start_codes, written, written_all}
+use Rattle.ansi_style.specs.Written.{start, start_codes, close, close_codes, written, written_all}
 use Rattle.ansi_style.proofs.ColorLemmas.{is_code_byte}
-use Rattle.ansi_style.proofs.ReadBackLemmas.{start_codes_are}
+use Rattle.ansi_style.proofs.ReadBackLemmas.{start_codes_are, close_codes_are}
 use Rattle.ansi_style.proofs.StyleLemmas.{IsStyle-style_after}
 use Rattle.ansi_safe.specs.declared.policy.Links.{Links}
+use Rattle.ansi_safe.specs.declared.policy.Links.TheVariants.{Keep, Remove}
 use Rattle.ansi_safe.specs.declared.policy.Policy.{Policy}
 use Rattle.ansi_safe.specs.declared.policy.Rest.{Rest}
-use Rattle.ansi_safe.specs.Links.{IsClosed, is_link, opens_link, link_of, link_after, ending}
-use Rattle.ansi_safe.specs.Safe.{is_printable_byte, may_stay, is_safe}
+use Rattle.ansi_safe.specs.Links.{IsClosed, is_link, opens_link, link_of, link_after, link_end, ending}
+use Rattle.ansi_safe.specs.Safe.{is_printable_byte, is_clean_link, may_stay, is_safe}
 use Rattle.ansi_safe.specs.Sanitized.{becomes, cleaned, made_of, sanitized}
 use Rattle.ansi_safe.proofs.AllowedLemmas.{made_of_run-stands, instead_of_all-stands}
 use Rattle.ansi_safe.proofs.FrontLemmas.{printable-ascii}
@@ -32,7 +36,10 @@ use Rattle.ansi_safe.proofs.LinkLemmas.{link_through, link_of-pieces}
 use Rattle.ansi_safe.proofs.SafeLemmas.{piece_and_rest, AreGood, AreGood-append, good_are_safe, good_text, cleaned_pieces, cleaned-good, spelled-cleaned_pieces, ended_pieces, spelled-ended_pieces, ended-good, sanitized-is_closed}
 use Rattle.ansi_view_runs.specs.declared.view.View.{View}
 use Rattle.ansi_view_runs.specs.Lines.{Line, first_line, first_lines, is_line_feed, lines, max_piece, piece_len, split_end, split_unended}
-use Rattle.ansi_view_runs.specs.Views.{Work, body, decoded, opening_of, opening_after, shown, viewed, viewed_all, view_of}
+use Rattle.ansi_view_runs.specs.Edits.{HasUtf8Tail, changed_in_turn}
+use Rattle.ansi_view_runs.specs.SafeTexts.{IsSafeText}
+use Rattle.ansi_view_runs.specs.Views.{Work, body, decoded, line_break, opening_of, opening_after, shown, viewed, viewed_all, view_of}
+use Rattle.ansi_view_runs.proofs.ChangeLemmas.{safe-append, all-in_turn}
 use Rattle.ansi_view_runs.proofs.StayLemmas.{viewed-unchanged}
 
 -- What bytes are read as is UTF-8.
@@ -127,6 +134,13 @@ written_all-utf8 [] all = IsUtf8-nil
 written_all-utf8 (x ∷ xs) all =
     let both = and_parts (list_all is_code_byte x) (list_all (list_all is_code_byte) xs) all in
     IsUtf8-append (written x) (written_all xs) (written-utf8 x both.0) (written_all-utf8 xs both.1)
+
+close-utf8 : (s : Rendition) → IsUtf8 (close s)
+close-utf8 s = written_all-utf8 (close_codes s) (close_codes_are s).each
+
+link_end-utf8 : (link : List ℕ) → IsUtf8 (link_end link)
+unfolding lib.Utf8.encode
+link_end-utf8 link = either IsUtf8 (length link == 0) [] (codes "\u{1b}]8;;\u{1b}\\") IsUtf8-nil (codes "\u{1b}]8;;\u{1b}\\", (refl, refl))
 
 start-utf8 : (t : List ℕ) → IsUtf8 (start (style_after t))
 start-utf8 t = written_all-utf8 (start_codes (style_after t)) (start_codes_are (style_after t) (IsStyle-style_after t)).each
@@ -261,7 +275,7 @@ first-ends t =
     let last : HasEnd (split_unended n t) = inl refl in
     either HasEnd (nat_lt max_piece n) _ _ piece (either HasEnd (nat_lt n (length t)) _ _ ended last)
 
--- So what lines become is safe.
+-- So what lines become is safe, by the policy if they are unchanged.
 
 module _ (work : Work) (unchanged : work.changes ≡ []) where
   abbrev links : Links
@@ -280,6 +294,96 @@ module _ (work : Work) (unchanged : work.changes ≡ []) where
       let first = first_line (b ∷ bs) in
       good-append (line-good opening first.0 utf8 (first-ends (b ∷ bs))) (lines-good k first.1 (opening_after work.view opening first.0) (opening_after-utf8 work.view opening first.0 utf8))
 
-  pub view_of-safe : (input : List ℕ) → is_safe links (view_of work input) ≡ true
+  pub view_of-policy : (input : List ℕ) → is_safe links (view_of work input) ≡ true
   unfolding lines
-  view_of-safe input = good-safe (lines-good (length input) input [] IsUtf8-nil)
+  view_of-policy input = good-safe (lines-good (length input) input [] IsUtf8-nil)
+
+-- With clean links kept, what any policy lets stay may stay.
+
+kept-stays : (links : Links) (p : Piece) → may_stay links p ≡ true → may_stay Keep p ≡ true
+kept-stays Keep p stays = stays
+kept-stays Remove (Text w) stays = stays
+kept-stays Remove (Sequence w) stays = or_left (is_sgr w) (is_clean_link w) stays
+  where
+    or_left : (a b : Bool) → (a || false) ≡ true → (a || b) ≡ true
+    or_left true b is = refl
+    or_left false b is = absurd (cc is)
+kept-stays Remove LoneEscape stays = stays
+
+kept-all : (kept : Links) (ps : List Piece) → list_all (may_stay kept) ps ≡ true → list_all (may_stay Keep) ps ≡ true
+kept-all kept [] all = refl
+kept-all kept (p ∷ ps) all =
+    let both = and_parts (may_stay kept p) (list_all (may_stay kept) ps) all in
+    and_from _ _ (kept-stays kept p both.0) (kept-all kept ps both.1)
+
+-- The text of a line is safe, whatever changes are made of it.
+
+shown-utf8 : (view : View) (opening : List ℕ) (line : Line) → IsUtf8 opening → IsUtf8 (shown view opening line)
+shown-utf8 view opening line utf8 =
+    let t = body view opening line.text in
+    let u = cleaned view.policy t in
+    let clean = cleaned-utf8 view.policy t (body-utf8 view opening line.text utf8) in
+    let end = IsUtf8-append (link_end (link_of (marks u))) (close (style_after u)) (link_end-utf8 (link_of (marks u))) (close-utf8 (style_after u)) in
+    either IsUtf8 (length line.text == 0) [] (sanitized view.policy t) IsUtf8-nil (IsUtf8-append u (ending u) clean end)
+
+shown-text : (view : View) (opening : List ℕ) (line : Line) → IsUtf8 opening → IsSafeText (shown view opening line)
+shown-text view opening line utf8 = record {
+  utf8 = shown-utf8 view opening line utf8;
+  safe = kept-all view.policy.links (pieces_of (shown view opening line)) (shown-safe view opening line utf8);
+  closed = shown-closed view opening line utf8;
+}
+
+pub edited-safe : (work : Work) (opening : List ℕ) (line : Line) → All HasUtf8Tail work.changes → IsUtf8 opening → All IsSafeText (changed_in_turn work.changes (shown work.view opening line))
+edited-safe work opening line tails utf8 = all-in_turn work.changes (shown work.view opening line) tails (shown-text work.view opening line utf8)
+
+-- So is what an input becomes: texts with line ends between them and after them.
+
+safe-none : IsSafeText []
+safe-none = record { utf8 = IsUtf8-nil; safe = refl; closed = record { style = refl; link = refl } }
+
+safe-feed : IsSafeText (codes "\n")
+unfolding lib.Utf8.encode
+safe-feed = record { utf8 = (codes "\n", (refl, refl)); safe = good-safe (end-good Keep (codes "\n") (inr (inl refl))); closed = record { style = refl; link = refl } }
+
+safe-return : IsSafeText (codes "\r\n")
+unfolding lib.Utf8.encode
+safe-return = record { utf8 = (codes "\r\n", (refl, refl)); safe = good-safe (end-good Keep (codes "\r\n") (inr (inr refl))); closed = record { style = refl; link = refl } }
+
+safe-end : (end : List ℕ) → IsEnd end → IsSafeText end
+safe-end end is = elim is [
+  | inl none ↦ subst IsSafeText (sym none) safe-none
+  | inr some ↦ elim some [
+    | inl feed ↦ subst IsSafeText (sym feed) safe-feed
+    | inr both ↦ subst IsSafeText (sym both) safe-return
+  ]
+]
+
+safe-break : (end : List ℕ) → IsEnd end → IsSafeText (line_break end)
+safe-break end is = either IsSafeText (length end == 0) (codes "\n") end safe-feed (safe-end end is)
+
+safe-later : (gap : List ℕ) (ts : List (List ℕ)) → IsSafeText gap → AllByRecursion IsSafeText ts → IsSafeText (flat_map (λ t. gap ++ t) ts)
+safe-later gap [] is are = safe-none
+safe-later gap (t ∷ ts) is are = safe-append (gap ++ t) (flat_map (λ t. gap ++ t) ts) (safe-append gap t is are.0) (safe-later gap ts is are.1)
+
+safe-joined : (gap : List ℕ) (ts : List (List ℕ)) → IsSafeText gap → AllByRecursion IsSafeText ts → IsSafeText (join_by (λ t. t) gap ts)
+safe-joined gap [] is are = safe-none
+safe-joined gap (t ∷ ts) is are = safe-append t (flat_map (λ t. gap ++ t) ts) are.0 (safe-later gap ts is are.1)
+
+module _ (work : Work) (tails : All HasUtf8Tail work.changes) where
+  line-safe : (opening : List ℕ) (line : Line) → IsUtf8 opening → IsEnd line.end → IsSafeText (viewed work opening line)
+  line-safe opening line utf8 end =
+      let ts = changed_in_turn work.changes (shown work.view opening line) in
+      let texts = recursion_from_All IsSafeText ts (edited-safe work opening line tails utf8) in
+      safe-append (join_by (λ t. t) (line_break line.end) ts) line.end (safe-joined (line_break line.end) ts (safe-break line.end end) texts) (safe-end line.end end)
+
+  lines-safe : (k : ℕ) (t opening : List ℕ) → IsUtf8 opening → IsSafeText (viewed_all work opening (first_lines k t))
+  unfolding viewed_all
+  lines-safe zero t opening utf8 = safe-none
+  lines-safe (suc k) [] opening utf8 = safe-none
+  lines-safe (suc k) (b ∷ bs) opening utf8 =
+      let first = first_line (b ∷ bs) in
+      safe-append _ _ (line-safe opening first.0 utf8 (first-ends (b ∷ bs))) (lines-safe k first.1 (opening_after work.view opening first.0) (opening_after-utf8 work.view opening first.0 utf8))
+
+  pub view_of-safe : (input : List ℕ) → IsSafeText (view_of work input)
+  unfolding lines
+  view_of-safe input = lines-safe (length input) input [] IsUtf8-nil

@@ -1,6 +1,7 @@
 -- What edits by columns make of a text.
-use Rattle.std.specs.Prelude.{ℕ, Bool, true, false, List, [], ◌∷◌, Option, map, fold}
+use Rattle.std.specs.Prelude.{ℕ, Bool, true, false, List, [], ◌∷◌, Option, map, fold, ⊤}
 use Rattle.std.specs.List.{flat_map}
+use Rattle.std.specs.Str.{IsUtf8}
 use Rattle.ansi_safe.specs.Cells.{cell}
 use Rattle.ansi_columns.specs.declared.shown.Alignment.TheVariants.{Left}
 use Rattle.ansi_columns.specs.Shown.{truncated, padded, closed_cell}
@@ -34,6 +35,16 @@ changes_of edits = map change_of edits
 abbrev pub is_wrap : Change → Bool
 is_wrap (Wrapped width) = true
 is_wrap change = false
+
+-- the tail of a truncation is UTF-8, as that of a word is
+abbrev pub HasUtf8Tail : Change → Type 0
+HasUtf8Tail (Truncated width tail) = IsUtf8 tail
+HasUtf8Tail change = ⊤
+
+-- TABs become blanks, and line ends stay; any other change makes texts on one line
+abbrev pub is_expansion : Change → Bool
+is_expansion (Expanded stop) = true
+is_expansion change = false
 
 -- what a change makes of a text: the lines of a wrap, or else one text (`ansi_columns`)
 abbrev pub changed : Change → List ℕ → List (List ℕ)

@@ -1,3 +1,4 @@
+pub mod SafeTexts
 pub mod Lines
 pub mod Edits
 pub mod Views
