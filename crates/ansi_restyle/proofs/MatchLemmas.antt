@@ -1,9 +1,9 @@
 -- The matches that are left after the first.
-use Rattle.std.proofs.Common.{◌≡◌, ℕ, zero, suc, ◌+◌, ◌<◌, ◌≤◌, max, inl, inr, Bool, true, Option, IfSome, IsFalse, IsSome, List, [], ◌∷◌, length, map, filter, drop, nat_eq, nat_le, Some, None, refl, sym, ◌∙◌, ap, ap₂, subst, arith, IsTrue, if◌then◌else◌}
+use Rattle.std.proofs.Common.{◌≡◌, ℕ, zero, suc, ◌+◌, ◌<◌, ◌≤◌, ◌==◌, max, inl, inr, Bool, true, false, Option, IfSome, IsFalse, IsSome, List, [], ◌∷◌, length, map, filter, drop, nat_eq, nat_le, Some, None, refl, sym, ◌∙◌, ap, ap₂, subst, arith, IsTrue, if◌then◌else◌}
 use Rattle.std.specs.Option.{MatchOption}
 use Rattle.std.specs.List.{range_with_len, starts_with}
 use Rattle.std.specs.Str.{IsUtf8}
-use Rattle.std.proofs.lemmas.Bool.{and_from, and_parts, cases_lt, cond_both, le-leb, lt-leb}
+use Rattle.std.proofs.lemmas.Bool.{and_from, and_parts, cases_lt, cond_both, eq-eqb, eqb-false, eqb-true, le-leb, lt-leb}
 use Rattle.std.proofs.lemmas.List.{length-map}
 use Rattle.std.proofs.lemmas.List.FromFn.{length-range_with_len}
 use Rattle.std.proofs.lemmas.List.Sums.{length-filter, count_by-le-length}
@@ -15,7 +15,7 @@ use Rattle.ansi_search.specs.Matches.{is_match, match_places, first_match_from}
 use Rattle.ansi_split.specs.Parts.{without_overlaps}
 use Rattle.ansi_split.proofs.TakenLemmas.{without_overlaps-none, is_first_taken}
 use Rattle.ansi_split.proofs.SpanLemmas.{match_is_good}
-use Rattle.ansi_restyle.specs.Ranges.{are_in_turn}
+use Rattle.ansi_restyle.specs.Ranges.{are_in_turn, are_empty}
 use Rattle.ansi_restyle.specs.Matches.{matches, matches_left}
 
 -- the matches at these places, n bytes further on
@@ -124,3 +124,23 @@ taken_in_turn x p utf8 utf8_p i (suc k) e inside =
 
 pub matches_in_turn : (x p : List ℕ) → IsUtf8 x → IsUtf8 p → IsTrue (are_in_turn x 0 (matches x p))
 matches_in_turn x p utf8 utf8_p = taken_in_turn x p utf8 utf8_p 0 (length x + 1) 0 (omega arith)
+
+-- The matches of an empty pattern are empty, and those of any other aren't.
+
+pub matches-empty : (x p : List ℕ) → (length p == 0) ≡ true → are_empty (matches x p) ≡ true
+matches-empty x p empty = each (without_overlaps (length p) 0 (match_places x p))
+  where
+    each : (ms : List ℕ) → are_empty (map (as_range p) ms) ≡ true
+    each [] = refl
+    each (m ∷ ms) =
+        let none : length p ≡ 0 = eqb-true (length p) 0 empty in
+        and_from (m == m + length p) (are_empty (map (as_range p) ms)) (eq-eqb m (m + length p) (omega (arith, none))) (each ms)
+
+pub matches-filled : (x p : List ℕ) → (length p == 0) ≡ false → are_empty (matches x p) ≡ true → matches x p ≡ []
+matches-filled x p filled none = nothing (without_overlaps (length p) 0 (match_places x p)) none
+  where
+    nothing : (ms : List ℕ) → are_empty (map (as_range p) ms) ≡ true → map (as_range p) ms ≡ []
+    nothing [] none = refl
+    nothing (m ∷ ms) none =
+        let same : m ≡ m + length p = eqb-true m (m + length p) (and_parts (m == m + length p) (are_empty (map (as_range p) ms)) none).0 in
+        absurd (eqb-false (length p) 0 filled (omega (arith, same)))

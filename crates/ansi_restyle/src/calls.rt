@@ -109,7 +109,8 @@ pub trait AnsiRestyle: AnsiStr {
     /// The text with SGR codes applied to each match of a pattern, as `ansi_restyle` does it.
     ///
     /// It is `None` exactly if the codes have a byte other than a digit, `:` and `;`. It is a borrow
-    /// if nothing matches, or the pattern is empty. `Err` means out of memory. (Own.)
+    /// if nothing matches, or the pattern is empty. A borrow and a `None` don't allocate. `Err` means
+    /// out of memory. (Own.)
     ///
     /// ```
     /// let marked = "to do: \x1b[1mdo".ansi_mark(rt.alloc(), "do", "7");
@@ -130,7 +131,8 @@ pub trait AnsiRestyle: AnsiStr {
             (matches (plain (Self.text self.now)) pat.now))) }
         ensures borrowed { IfOk result (λ o. IfSome o (λ c. IsBorrowedStr c
             ↔ IsTrue (are_empty (matches (plain (Self.text self.now)) pat.now)))) }
-        ensures takes_no_memory { IsFalse (is_change codes.now) → IsOk result }
+        ensures takes_no_memory { IsTrue (are_empty (matches (plain (Self.text self.now)) pat.now))
+            ⊎ IsFalse (is_change codes.now) → IsOk result }
     {
         mark_in(alloc, self.as_text(), pat, codes)
     }

@@ -1,5 +1,5 @@
 //! Parts of a text in another style.
-ghost use Rattle.std.specs.Prelude.{◌≡◌, ◌↔◌, ◌⊎◌, ◌++◌, ◌&&◌, ◌<◌, ◌+◌, ◌^◌, length, IfOk, IfSome, IsFalse};
+ghost use Rattle.std.specs.Prelude.{◌≡◌, ◌↔◌, ◌⊎◌, ◌++◌, ◌&&◌, ◌<◌, ◌+◌, ◌^◌, [], length, IfOk, IfSome, IsFalse};
 ghost use Rattle.std.specs.Prelude.{IsNone, IsOk, IsTrue, OnOk, string_bytes};
 ghost use Rattle.std.specs.Cow.{cow_str_bytes, IsBorrowedStr};
 ghost use Rattle.ansi_items.specs.Pieces.{pieces_of};
@@ -77,10 +77,14 @@ pub fn mark_in<'t, A: Allocator + Copy>(
         ≡ restyled text.now (written codes.now) (matches (plain text.now) pat.now))) }
     ensures borrowed { IfOk result (λ o. IfSome o (λ c.
         IsBorrowedStr c ↔ IsTrue (are_empty (matches (plain text.now) pat.now)))) }
-    ensures takes_no_memory { IsFalse (is_change codes.now) → IsOk result }
+    ensures takes_no_memory { IsTrue (are_empty (matches (plain text.now) pat.now))
+        ⊎ IsFalse (is_change codes.now) → IsOk result }
 {
     if !is_change(codes) {
         return Ok(None);
+    }
+    if pat.is_empty() {
+        return Ok(Some(CowStr::Borrowed(text)));
     }
     let ranges = matches_of(alloc, text, pat)?;
     restyle_in(alloc, text, ranges.as_slice(), codes)
@@ -94,6 +98,7 @@ fn matches_of<A: Allocator>(
 ) -> Result<Vec<(usize, usize), A>, AllocError>
     ensures matches { IfOk result (λ v. v.items ≡ matches (plain text.now) pat.now) }
     ensures in_turn { IsTrue (are_in_turn (plain text.now) 0 (matches (plain text.now) pat.now)) }
+    ensures takes_no_memory { matches (plain text.now) pat.now ≡ [] → IsOk result }
 {
     let mut ranges = Vec::new(alloc);
     for range in Matches::new(text, pat) {
