@@ -8,3 +8,5 @@ pub mod RestyledLemmas
 pub mod RestyleWalkLemmas
 pub mod TurnLemmas
 pub mod EmptyLemmas
+pub mod LengthLemmas
+mod LengthExamples

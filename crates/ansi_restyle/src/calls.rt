@@ -1,8 +1,9 @@
 //! The calls on any text.
-ghost use Rattle.std.specs.Prelude.{◌≡◌, ◌≤◌, ◌+◌, ◌↔◌, ◌⊎◌, ◌&&◌, Some, length, IfOk, IfSome};
-ghost use Rattle.std.specs.Prelude.{IsFalse, IsNone, IsOk, IsTrue};
+ghost use Rattle.std.specs.Prelude.{◌≡◌, ◌≤◌, ◌+◌, ◌-◌, ◌*◌, ◌↔◌, ◌⊎◌, ◌&&◌, Some, filter, length};
+ghost use Rattle.std.specs.Prelude.{IfOk, IfSome, IsFalse, IsNone, IsOk, IsTrue};
 ghost use Rattle.std.specs.Cow.{cow_str_bytes, IsBorrowedStr};
-ghost use Rattle.ansi_items.specs.Plain.{plain, is_whole};
+ghost use Rattle.ansi_items.specs.Pieces.{pieces_of};
+ghost use Rattle.ansi_items.specs.Plain.{plain, is_text, is_whole};
 ghost use Rattle.ansi_search.specs.Matches.{first_match_from};
 ghost use Rattle.ansi_search.specs.Positions.{is_good_range};
 ghost use Rattle.ansi_style.specs.Written.{written};
@@ -78,7 +79,9 @@ pub trait AnsiRestyle: AnsiStr {
     /// boundaries, or begins before the one before it ends, or if the codes have another byte.
     ///
     /// It is a borrow if each range is empty. A borrow and a `None` don't allocate. Otherwise it is
-    /// owned. `Err` means out of memory. Takes time in proportion to the text and the ranges. (Own.)
+    /// owned. For each run of text that a range changes, it is longer by at most 254 bytes and the
+    /// length of the codes. `Err` means out of memory. Takes time in proportion to the text and the
+    /// ranges. (Own.)
     ///
     /// ```
     /// let marked = "red \x1b[31mred".ansi_restyle(rt.alloc(), &[(0, 2), (5, 6)], "4");
@@ -99,6 +102,9 @@ pub trait AnsiRestyle: AnsiStr {
             cow_str_bytes c ≡ restyled (Self.text self.now) (written codes.now) ranges.now)) }
         ensures borrowed { IfOk result (λ o. IfSome o (λ c.
             IsBorrowedStr c ↔ IsTrue (are_empty ranges.now))) }
+        ensures len { IfOk result (λ o. IfSome o (λ c. length (cow_str_bytes c)
+            ≤ length (Self.text self.now) + (length codes.now + 254)
+            * (length ranges.now + length (filter is_text (pieces_of (Self.text self.now))) - 1))) }
         ensures takes_no_memory { IsTrue (are_empty ranges.now) ⊎ IsFalse
             (is_change codes.now && are_in_turn (plain (Self.text self.now)) 0 ranges.now) →
             IsOk result }
@@ -131,6 +137,10 @@ pub trait AnsiRestyle: AnsiStr {
             (matches (plain (Self.text self.now)) pat.now))) }
         ensures borrowed { IfOk result (λ o. IfSome o (λ c. IsBorrowedStr c
             ↔ IsTrue (are_empty (matches (plain (Self.text self.now)) pat.now)))) }
+        ensures len { IfOk result (λ o. IfSome o (λ c. length (cow_str_bytes c)
+            ≤ length (Self.text self.now) + (length codes.now + 254)
+            * (length (matches (plain (Self.text self.now)) pat.now)
+            + length (filter is_text (pieces_of (Self.text self.now))) - 1))) }
         ensures takes_no_memory { IsTrue (are_empty (matches (plain (Self.text self.now)) pat.now))
             ⊎ IsFalse (is_change codes.now) → IsOk result }
     {

@@ -1,9 +1,10 @@
 //! Parts of a text in another style.
-ghost use Rattle.std.specs.Prelude.{◌≡◌, ◌↔◌, ◌⊎◌, ◌++◌, ◌&&◌, ◌<◌, ◌+◌, ◌^◌, [], length, IfOk, IfSome, IsFalse};
+ghost use Rattle.std.specs.Prelude.{◌≡◌, ◌↔◌, ◌⊎◌, ◌++◌, ◌&&◌, ◌<◌, ◌≤◌, ◌+◌, ◌-◌, ◌*◌, ◌^◌, []};
+ghost use Rattle.std.specs.Prelude.{filter, length, IfOk, IfSome, IsFalse};
 ghost use Rattle.std.specs.Prelude.{IsNone, IsOk, IsTrue, OnOk, string_bytes};
 ghost use Rattle.std.specs.Cow.{cow_str_bytes, IsBorrowedStr};
 ghost use Rattle.ansi_items.specs.Pieces.{pieces_of};
-ghost use Rattle.ansi_items.specs.Plain.{plain, is_whole};
+ghost use Rattle.ansi_items.specs.Plain.{plain, is_text, is_whole};
 ghost use Rattle.ansi_items.specs.Sequences.{is_sgr};
 ghost use Rattle.ansi_style.specs.States.{rendition_of};
 ghost use Rattle.ansi_style.specs.Written.{written};
@@ -41,6 +42,9 @@ pub fn restyle_in<'t, A: Allocator + Copy>(
         cow_str_bytes c ≡ restyled text.now (written codes.now) ranges.now)) }
     ensures borrowed { IfOk result (λ o. IfSome o (λ c.
         IsBorrowedStr c ↔ IsTrue (are_empty ranges.now))) }
+    ensures len { IfOk result (λ o. IfSome o (λ c. length (cow_str_bytes c) ≤ length text.now
+        + (length codes.now + 254)
+        * (length ranges.now + length (filter is_text (pieces_of text.now)) - 1))) }
     ensures takes_no_memory { IsTrue (are_empty ranges.now)
         ⊎ IsFalse (is_change codes.now && are_in_turn (plain text.now) 0 ranges.now) →
         IsOk result }
@@ -77,6 +81,9 @@ pub fn mark_in<'t, A: Allocator + Copy>(
         ≡ restyled text.now (written codes.now) (matches (plain text.now) pat.now))) }
     ensures borrowed { IfOk result (λ o. IfSome o (λ c.
         IsBorrowedStr c ↔ IsTrue (are_empty (matches (plain text.now) pat.now)))) }
+    ensures len { IfOk result (λ o. IfSome o (λ c. length (cow_str_bytes c) ≤ length text.now
+        + (length codes.now + 254) * (length (matches (plain text.now) pat.now)
+        + length (filter is_text (pieces_of text.now)) - 1))) }
     ensures takes_no_memory { IsTrue (are_empty (matches (plain text.now) pat.now))
         ⊎ IsFalse (is_change codes.now) → IsOk result }
 {
