@@ -2,6 +2,7 @@ pub mod RestLemmas
 pub mod MatchLemmas
 pub mod RangeLemmas
 pub mod OtherLemmas
+pub mod StayLemmas
 pub mod FrontLemmas
 pub mod ChangeLemmas
 pub mod RestyledLemmas

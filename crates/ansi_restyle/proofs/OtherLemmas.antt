@@ -24,7 +24,7 @@ kept p = copied p
 abbrev pub kept_of : List Piece → List ℕ
 kept_of ps = flat_map kept ps
 
-is_sgr-text : (w : List ℕ) → w ≢ [] → IsTrue (list_all is_plain_byte w) → is_sgr w ≡ false
+pub is_sgr-text : (w : List ℕ) → w ≢ [] → IsTrue (list_all is_plain_byte w) → is_sgr w ≡ false
 is_sgr-text [] some bare = absurd (some refl)
 is_sgr-text (b ∷ w) some bare =
     let first : IsTrue (is_plain_byte b) = (and_parts (is_plain_byte b) (list_all is_plain_byte w) bare).0 in

@@ -1,9 +1,10 @@
 -- A text in which ranges have another style.
-use Rattle.std.specs.Prelude.{◌≡◌, ℕ, ◌+◌, ◌-◌, Bool, List, [], ◌∷◌, ◌++◌, take, drop, IsTrue, if◌then◌else◌}
+use Rattle.std.specs.Prelude.{◌≡◌, ℕ, ◌+◌, ◌-◌, Bool, not, List, [], ◌∷◌, ◌++◌, filter, take, drop, IsTrue, if◌then◌else◌}
 use Rattle.std.specs.Int.{is_in_range}
 use Rattle.std.specs.List.{list_all}
 use Rattle.ansi_items.specs.Pieces.{Piece, Text, spelling, pieces_of}
-use Rattle.ansi_items.specs.Plain.{plain, is_whole}
+use Rattle.ansi_items.specs.Plain.{Mark, plain, marks, is_whole}
+use Rattle.ansi_items.specs.Sequences.{is_sgr}
 use Rattle.ansi_style.specs.declared.state.rendition.Rendition.{Rendition}
 use Rattle.ansi_style.specs.Rendition.{plain_style, known}
 use Rattle.ansi_style.specs.Sgr.{apply}
@@ -34,6 +35,10 @@ pub record IsRestyled (t w : List ℕ) (rs : List (ℕ × ℕ)) (u : List ℕ) :
   pub others : without_sgrs u ≡ without_sgrs t
   pub whole : IsTrue (is_whole u)
   pub open_at_end : residue u ≡ residue t
+
+-- the sequences of t that aren't SGRs and its lone escapes, each at its place
+abbrev pub other_marks : List ℕ → List Mark
+other_marks t = filter (λ (m : Mark). not (is_sgr m.bytes)) (marks t)
 
 -- The bytes.
 

@@ -6,6 +6,7 @@
 #![tactic(auto)]
 
 pub mod calls;
+pub mod laws;
 pub mod matches;
 mod rest;
 pub mod restyle;
