@@ -1,5 +1,5 @@
 -- A whole text with each run changed: it is whole, and read in the style before it has its styled bytes changed, and leaves open what it did.
-use Rattle.std.proofs.Common.{◌≡◌, ℕ, true, List, [], ◌∷◌, ◌++◌, length, map, refl, sym, ◌∙◌, ap, ap₂, subst, arith, IsTrue, append_assoc}
+use Rattle.std.proofs.Common.{◌≡◌, ℕ, true, List, [], ◌∷◌, ◌++◌, length, map, refl, sym, ◌∙◌, ap, ap₂, subst, arith, IsTrue, append_assoc, append-nil}
 use Rattle.std.proofs.lemmas.Grind.{flat_map-append}
 use Rattle.std.proofs.lemmas.List.{map-append}
 use Rattle.std.proofs.lemmas.Bool.{and_from}
@@ -17,7 +17,7 @@ use Rattle.ansi_style.proofs.SgrLemmas.{apply-known, apply-alike}
 use Rattle.ansi_style.proofs.StyleLemmas.{IsStyle-apply}
 use Rattle.ansi_style.proofs.StyledLemmas.{style_through, styled_through, in_style, style_through-append, styled_through-append, styled_from-pieces, style_after_from-pieces}
 use Rattle.ansi_style.proofs.SpelledLemmas.{styled_from-spelled, style_after_from-spelled, styled_from-append, style_after_from-append, styled_from-alike, style_after_from-alike}
-use Rattle.ansi_style.proofs.ReadBackLemmas.{apply_codes, apply_codes-append, code_pieces, spelled-code_pieces, code_pieces_stand, start_codes_are, close_codes_are, style_through-codes, styled_through-codes}
+use Rattle.ansi_style.proofs.ReadBackLemmas.{AreCodes, style_after_from-codes, apply_codes, apply_codes-append, code_pieces, spelled-code_pieces, code_pieces_stand, start_codes_are, close_codes_are, style_through-codes, styled_through-codes}
 use Rattle.ansi_style.proofs.StartLemmas.{start_codes_set}
 use Rattle.ansi_style.proofs.CloseLemmas.{close_codes_clear}
 use Rattle.ansi_restyle.specs.Restyled.{is_change, changed_byte, changed_run, changed_pieces}
@@ -168,3 +168,15 @@ reads-changed codes s t change is whole =
       given = λ p same. styled_from-spelled p qs stand ∙ (reads_pieces codes s ps p is same).given ∙ ap (map (changed_byte (written codes))) (sym (styled_from-pieces s t));
       left = λ p same. ap known (style_after_from-spelled p qs stand) ∙ (reads_pieces codes s ps p is same).left ∙ ap known (sym (style_after_from-pieces s t));
     })
+
+-- Two changes of a byte are both SGRs in a row.
+pub changed_byte-twice : (first second : List ℕ) (b : StyledByte) → is_change first ≡ true → is_change second ≡ true
+    → changed_byte (written second) (changed_byte (written first) b) ≡ record b { style = known (style_after_from b.style (written first ++ written second)) }
+changed_byte-twice first second b is_first is_second =
+    let xs = first ∷ second ∷ [] in
+    let s = b.style in
+    let n = length (written_all xs) in
+    let are : AreCodes xs n = record { each = and_from _ _ is_first (and_from _ _ is_second refl); short = omega arith } in
+    let both : style_after_from s (written first ++ written second) ≡ apply (apply s (written first)) (written second)
+    = ap (λ u. style_after_from s (written first ++ u)) (sym (append-nil (written second))) ∙ style_after_from-codes s xs are in
+    ap (λ k. record b { style = k }) (sym (apply-known (apply s (written first)) (written second)) ∙ ap known (sym both))

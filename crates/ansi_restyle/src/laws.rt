@@ -2,13 +2,39 @@
 //!
 //! Each function has one law as its contract, does nothing and returns nothing. A body that needs
 //! the law calls it, as `laws::other_marks_stay();`. (Own.)
-ghost use Rattle.std.specs.Prelude.{◌≡◌, ℕ, List, IsTrue};
+ghost use Rattle.std.specs.Prelude.{◌≡◌, ◌++◌, ℕ, List, [], IsTrue};
 ghost use Rattle.ansi_items.specs.Plain.{is_whole};
-ghost use Rattle.ansi_restyle.specs.Restyled.{IsRestyled, other_marks};
+ghost use Rattle.ansi_style.specs.Rendition.{known};
+ghost use Rattle.ansi_style.specs.Reading.{style_after_from};
+ghost use Rattle.ansi_style.specs.Styled.{StyledByte, styled};
+ghost use Rattle.ansi_style.specs.Written.{written};
+ghost use Rattle.ansi_restyle.specs.Ranges.{are_empty};
+ghost use Rattle.ansi_restyle.specs.Restyled.{is_change, changed_byte, changed_within};
+ghost use Rattle.ansi_restyle.specs.Restyled.{restyled, IsRestyled, other_marks};
 
 /// In a whole text that is restyled, every link, title and other sequence that isn't an SGR stays
 /// at its place in the plain text.
 pub fn other_marks_stay()
     ensures { (t w : List ℕ) (rs : List (ℕ × ℕ)) (u : List ℕ) → IsTrue (is_whole t) →
         IsRestyled t w rs u → other_marks u ≡ other_marks t }
+{}
+
+/// No range, and any number of empty ones, leave the text as it is.
+pub fn empty_ranges_change_nothing()
+    ensures no_range { (t w : List ℕ) → restyled t w [] ≡ t }
+    ensures empty_ranges { (t w : List ℕ) (rs : List (ℕ × ℕ)) → IsTrue (are_empty rs) →
+        restyled t w rs ≡ t }
+{}
+
+/// If two changes are made one after another in the same ranges, each byte there has its style
+/// after both of their SGRs in a row.
+pub fn changes_add_up()
+    ensures in_turn { (t v w : List ℕ) (rs : List (ℕ × ℕ)) (u x : List ℕ) → IsRestyled t v rs u →
+        IsRestyled u w rs x →
+        styled x ≡ changed_within w rs 0 (changed_within v rs 0 (styled t)) }
+    ensures concatenated { (first second : List ℕ) (b : StyledByte) → IsTrue (is_change first) →
+        IsTrue (is_change second) →
+        changed_byte (written second) (changed_byte (written first) b) ≡ record b {
+          style = known (style_after_from b.style (written first ++ written second));
+        } }
 {}
