@@ -21,7 +21,7 @@ bytes_before-after_of n t (Text w ∷ ps) are = elim (cases_lt n (length w)) [
 ]
 bytes_before-after_of n t (p ∷ ps) are = bytes_before-after_of n are.0 ps are.3
 
-offset-rest : (t : List ℕ) (n : ℕ) → offset_of (rest n t) 0 ≡ 0
+pub offset-rest : (t : List ℕ) (n : ℕ) → offset_of (rest n t) 0 ≡ 0
 offset-rest t n = ap (bytes_before 0) (pieces_of-after t n) ∙ bytes_before-after_of n t (pieces_of t) (pieces_are t)
 
 restyled_from-empty : (w : List ℕ) (s : Rendition) (n : ℕ) (t : List ℕ) (rs : List (ℕ × ℕ)) → are_empty rs ≡ true → restyled_from w s n t rs ≡ t

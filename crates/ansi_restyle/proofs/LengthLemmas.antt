@@ -98,7 +98,7 @@ length-changed_pieces codes s (p ∷ ps) is =
 
 -- So all of the text.
 
-length-both : (t : List ℕ) (n : ℕ) → length (front n t) + length (rest n t) ≡ length t
+pub length-both : (t : List ℕ) (n : ℕ) → length (front n t) + length (rest n t) ≡ length t
 length-both t n = sym (length-append (front n t) (rest n t)) ∙ ap length (take-append-drop (offset_of t n) t)
 
 length-restyled_from : (codes : List ℕ) (s : Rendition) (n : ℕ) (t : List ℕ) (rs : List (ℕ × ℕ)) → IsStyle s → length (restyled_from (written codes) s n t rs) ≤ length t + (length codes + 254) * changed_runs n t rs

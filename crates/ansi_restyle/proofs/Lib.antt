@@ -11,3 +11,4 @@ pub mod TurnLemmas
 pub mod EmptyLemmas
 pub mod LengthLemmas
 mod LengthExamples
+pub mod RemovedLemmas

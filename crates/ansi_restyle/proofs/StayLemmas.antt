@@ -64,15 +64,14 @@ marks_of-merged (p ∷ ps) = marks_of-mark p (merged ps) refl ∙ ap (λ ms. rec
 
 -- So they are the marks of the text without its SGRs.
 
-others_stand : (ps : List Piece) → AllStandAnywhere ps → AllStandAnywhere (other_pieces ps)
-others_stand [] all = tt
-others_stand (p ∷ ps) all =
-    cond_both (not (is_sgr (spelling p))) (p ∷ other_pieces ps) (other_pieces ps) AllStandAnywhere (λ other. (all.0, others_stand ps all.1)) (λ sgr. others_stand ps all.1)
+pub filter_stand : (f : Piece → Bool) (ps : List Piece) → AllStandAnywhere ps → AllStandAnywhere (filter f ps)
+filter_stand f [] all = tt
+filter_stand f (p ∷ ps) all = cond_both (f p) (p ∷ filter f ps) (filter f ps) AllStandAnywhere (λ kept. (all.0, filter_stand f ps all.1)) (λ out. filter_stand f ps all.1)
 
 marks-without_sgrs : (t : List ℕ) → IsTrue (is_whole t) → marks (without_sgrs t) ≡ others (marks t)
 marks-without_sgrs t whole =
     let ps = pieces_of t in
-    ap marks_of (pieces_of-spelled (other_pieces ps) (others_stand ps (pieces_stand t whole)))
+    ap marks_of (pieces_of-spelled (other_pieces ps) (filter_stand (λ p. not (is_sgr (spelling p))) ps (pieces_stand t whole)))
     ∙ marks_of-merged (other_pieces ps) ∙ others-pieces t ps (pieces_are t)
 
 pub other_marks-stay : (t u : List ℕ) → IsTrue (is_whole t) → IsTrue (is_whole u) → without_sgrs u ≡ without_sgrs t → other_marks u ≡ other_marks t

@@ -2,3 +2,4 @@ pub mod Rests
 pub mod Matches
 pub mod Ranges
 pub mod Restyled
+pub mod Removed

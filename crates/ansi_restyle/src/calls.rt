@@ -9,15 +9,17 @@ ghost use Rattle.ansi_search.specs.Positions.{is_good_range};
 ghost use Rattle.ansi_style.specs.Written.{written};
 ghost use Rattle.ansi_restyle.specs.Matches.{matches};
 ghost use Rattle.ansi_restyle.specs.Ranges.{are_in_turn, are_empty};
+ghost use Rattle.ansi_restyle.specs.Removed.{removed, IsRemoved};
 ghost use Rattle.ansi_restyle.specs.Restyled.{is_change, restyled, IsRestyled};
 
 use crate::matches::{Matches, find_from};
+use crate::remove::remove_in;
 use crate::restyle::{mark_in, restyle_in};
 use ansi_str::AnsiStr;
 use std::alloc::{AllocError, Global};
 use std::borrow::CowStr;
 
-/// The matches of a pattern in a text, and parts of a text in another style.
+/// The matches of a pattern in a text, parts of a text in another style, and a text without a part.
 ///
 /// Implemented for every type that implements [`AnsiStr`]. The results depend on the text alone,
 /// not on its type.
@@ -145,6 +147,43 @@ pub trait AnsiRestyle: AnsiStr {
             ⊎ IsFalse (is_change codes.now) → IsOk result }
     {
         mark_in(alloc, self.as_text(), pat, codes)
+    }
+
+    /// The text without a range of its plain text.
+    ///
+    /// Every sequence stays, so each character before the range or after it keeps its style. A
+    /// range is a pair of positions, which count bytes of the plain text. A position past the end
+    /// counts as the end. It is `None` exactly if the range is bad, as for `ansi_get`: if a position
+    /// is inside a character, or the end is below the start.
+    ///
+    /// It is a borrow if the range ends where it begins. A borrow and a `None` don't allocate.
+    /// Otherwise it is owned, and no longer than the text. `Err` means out of memory. Takes time in
+    /// proportion to the text. (Own.)
+    ///
+    /// ```
+    /// let shorter = "one \x1b[1mtwo\x1b[22m three".ansi_remove(rt.alloc(), (2, 5));
+    /// assert!(rt; matches!(&shorter, Ok(Some(shorter)) if shorter.as_str() == "on\x1b[1mwo\x1b[22m three"));
+    /// ```
+    final fn ansi_remove(
+        &self,
+        alloc: Global,
+        range: (usize, usize),
+    ) -> Result<Option<CowStr<'_>>, AllocError>
+        ensures headline { IsTrue (is_whole (Self.text self.now)) → IfOk result (λ o. IfSome o (λ c.
+            IsRemoved (Self.text self.now) range.0 range.1 (cow_str_bytes c))) }
+        ensures none { IfOk result (λ o. IsNone o
+            ↔ IsFalse (is_good_range (plain (Self.text self.now)) range.0 (Some range.1))) }
+        ensures bytes { IfOk result (λ o. IfSome o (λ c.
+            cow_str_bytes c ≡ removed (Self.text self.now) range.0 range.1)) }
+        ensures borrowed { IfOk result (λ o. IfSome o (λ c.
+            IsBorrowedStr c ↔ (range.0 ≡ range.1))) }
+        ensures len { IfOk result (λ o. IfSome o (λ c.
+            length (cow_str_bytes c) ≤ length (Self.text self.now))) }
+        ensures takes_no_memory { (range.0 ≡ range.1)
+            ⊎ IsFalse (is_good_range (plain (Self.text self.now)) range.0 (Some range.1)) →
+            IsOk result }
+    {
+        remove_in(alloc, self.as_text(), range)
     }
 }
 

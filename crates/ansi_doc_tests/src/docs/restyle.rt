@@ -1,6 +1,7 @@
 //! The examples of the docs of `ansi_restyle`, in the same words.
 use ansi_restyle::AnsiRestyle;
 use ansi_restyle::matches::Matches;
+use ansi_restyle::remove::remove_in;
 use ansi_restyle::restyle::{mark_in, restyle_in};
 
 #[test]
@@ -61,5 +62,21 @@ fn ansi_mark_example(rt: HostRuntime) {
     let marked = "to do: \x1b[1mdo".ansi_mark(rt.alloc(), "do", "7");
     assert!(rt;
         matches!(&marked, Ok(Some(marked)) if marked.as_str() == "to \x1b[7mdo\x1b[27m: \x1b[1m\x1b[7mdo\x1b[22m\x1b[27m\x1b[1m")
+    );
+}
+
+#[test]
+fn remove_in_example(rt: HostRuntime) {
+    let shorter = remove_in(rt.alloc(), "a \x1b[31mred\x1b[39m b", (1, 4));
+    assert!(rt;
+        matches!(&shorter, Ok(Some(shorter)) if shorter.as_str() == "a\x1b[31md\x1b[39m b")
+    );
+}
+
+#[test]
+fn ansi_remove_example(rt: HostRuntime) {
+    let shorter = "one \x1b[1mtwo\x1b[22m three".ansi_remove(rt.alloc(), (2, 5));
+    assert!(rt;
+        matches!(&shorter, Ok(Some(shorter)) if shorter.as_str() == "on\x1b[1mwo\x1b[22m three")
     );
 }

@@ -1,0 +1,258 @@
+-- What is left of a text without a range of its plain text.
+use Rattle.std.proofs.Common.{◌≡◌, ℕ, ◌+◌, ◌-◌, ◌≤◌, min, inl, inr, true, false, not, ◌&&◌, List, [], ◌∷◌, ◌++◌, length, filter, take, drop, Some, refl, sym, ◌∙◌, ap, ap₂, arith, IsTrue, append-nil, append_assoc, length-append}
+use Rattle.std.proofs.lemmas.Bool.{cases_lt, le-leb}
+use Rattle.std.proofs.lemmas.Grind.{flat_map-append}
+use Rattle.std.proofs.lemmas.List.{take-append-drop, take-append-le, take_all, drop_all, nil_from_length, map-append, length-take, drop-drop}
+use Rattle.std.proofs.lemmas.List.Elements.{filter-append}
+use Rattle.std.specs.List.{take-map, drop-map}
+use Rattle.std.specs.Str.{IsUtf8}
+use Rattle.ansi_items.specs.Pieces.{Piece, Text, spelling, pieces_of, after_text, merged}
+use Rattle.ansi_items.specs.Plain.{plain, plain_of, joined, marks_of, marks_up_to, is_text, is_whole}
+use Rattle.ansi_items.proofs.JoinLemmas.{spelled, AllStandAnywhere, pieces_of-spelled, pieces_of-append, is_whole-spelled, is_whole-append, pieces_stand, spelled-pieces_of}
+use Rattle.ansi_style.specs.declared.state.rendition.Rendition.{Rendition}
+use Rattle.ansi_style.specs.Rendition.{plain_style, known}
+use Rattle.ansi_style.specs.Sgr.{apply}
+use Rattle.ansi_style.specs.Reading.{style_within, styled_from, style_after_from}
+use Rattle.ansi_style.specs.Styled.{StyledByte, styled, unstyled}
+use Rattle.ansi_style.proofs.MarkLemmas.{marks_of-mark, marks_up_to-here}
+use Rattle.ansi_style.proofs.StyledLemmas.{style_through, styled_through, style_after_from-pieces, unstyled-styled}
+use Rattle.ansi_style.proofs.SpelledLemmas.{styled_from-spelled, style_after_from-spelled, styled_from-append, style_after_from-append}
+use Rattle.ansi_items.proofs.Utf8Lemmas.{IsUtf8-plain}
+use Rattle.ansi_search.specs.Offsets.{offset_of}
+use Rattle.ansi_search.specs.Positions.{is_good_range, no_character_goes_on}
+use Rattle.ansi_search.proofs.PositionLemmas.{good_range-utf8}
+use Rattle.ansi_search.proofs.SliceLemmas.{drop-append}
+use Rattle.ansi_slice.specs.Stretches.{sequences_up_to}
+use Rattle.ansi_slice.proofs.StretchLemmas.{sequences_up_to-text}
+use Rattle.ansi_split.proofs.AfterLemmas.{is_cut_after}
+use Rattle.ansi_restyle.specs.Rests.{IsDivided}
+use Rattle.ansi_restyle.specs.Restyled.{front, rest}
+use Rattle.ansi_restyle.specs.Removed.{sequences, removed, IsRemoved}
+use Rattle.ansi_restyle.proofs.EmptyLemmas.{offset-rest}
+use Rattle.ansi_restyle.proofs.FrontLemmas.{is_whole-front, is_whole-rest, style_after-front, styled_from-parts, style_after-parts, length-styled_from, plain-rest}
+use Rattle.ansi_restyle.proofs.TurnLemmas.{IsLeft, goes_on-left}
+use Rattle.ansi_restyle.proofs.LengthLemmas.{length-both}
+use Rattle.ansi_restyle.proofs.StayLemmas.{filter_stand}
+
+abbrev mark_pieces : List Piece → List Piece
+mark_pieces ps = filter (λ p. not (is_text p)) ps
+
+-- What is written: all sequences are those up to the end, or past it.
+
+up_to-all : (ps : List Piece) (top : ℕ) → length (plain_of ps) ≤ top → sequences_up_to top ps ≡ spelled (mark_pieces ps)
+up_to-all [] top past = refl
+up_to-all (Text w ∷ ps) top past =
+    let size = length-append w (plain_of ps) in
+    sequences_up_to-text top w ps (omega (arith, size, past)) ∙ up_to-all ps (top - length w) (omega (arith, size, past))
+up_to-all (p ∷ ps) top past =
+    ap (λ ms. joined (marks_up_to top ms)) (marks_of-mark p ps refl) ∙ ap joined (marks_up_to-here top (spelling p) (marks_of ps))
+    ∙ ap (λ u. spelling p ++ u) (up_to-all ps top past)
+
+pub length-part : {t part after : List ℕ} (n : ℕ) → IsDivided t n part after → length (plain part) ≤ n
+length-part {t} {part} n divided =
+    let is : plain part ≡ take n (plain t) = ap plain divided.front_is ∙ (is_cut_after t n (offset_of t n) refl).plain_front in
+    omega (arith, ap length is, length-take n (plain t))
+
+pub removed-written : (t before after part last : List ℕ) (a b : ℕ) → IsDivided t a before after → IsDivided after (b - a) part last
+    → (before ++ sequences_up_to (b - a) (pieces_of part)) ++ last ≡ removed t a b
+removed-written t before after part last a b first second =
+    let all = up_to-all (pieces_of part) (b - a) (length-part (b - a) second) in
+    ap₂ (λ u v. u ++ v)
+    (ap₂ (λ u v. u ++ v) first.front_is (all ∙ ap sequences (second.front_is ∙ ap (front (b - a)) first.rest_is)))
+    (second.rest_is ∙ ap (rest (b - a)) first.rest_is)
+
+-- Which ranges are good: those that begin and end where the text can be divided.
+
+module _ (t : List ℕ) (a b : ℕ) (utf8 : IsUtf8 t) (ordered : a ≤ b) where
+  tests : is_good_range (plain t) a (Some b) ≡ (no_character_goes_on (plain t) a && no_character_goes_on (plain t) b)
+  tests =
+      good_range-utf8 (plain t) a b (IsUtf8-plain t utf8)
+      ∙ ap (λ k. k && (no_character_goes_on (plain t) a && no_character_goes_on (plain t) b)) (le-leb a b ordered)
+
+  at_end : {before after : List ℕ} → IsDivided t a before after → no_character_goes_on (plain after) (b - a) ≡ no_character_goes_on (plain t) b
+  at_end {before} {after} first =
+      let is : IsLeft (plain t) a after = record { there = ap plain first.rest_is ∙ plain-rest t a } in
+      goes_on-left b is ordered
+
+  pub range_good : {before after part last : List ℕ} → IsDivided t a before after → IsDivided after (b - a) part last → is_good_range (plain t) a (Some b) ≡ true
+  range_good first second = tests ∙ ap₂ (λ i k. i && k) first.good (sym (at_end first) ∙ second.good)
+
+  pub range_bad_start : no_character_goes_on (plain t) a ≡ false → is_good_range (plain t) a (Some b) ≡ false
+  range_bad_start bad = tests ∙ ap (λ i. i && no_character_goes_on (plain t) b) bad
+
+  pub range_bad_end : {before after : List ℕ} → IsDivided t a before after → no_character_goes_on (plain after) (b - a) ≡ false → is_good_range (plain t) a (Some b) ≡ false
+  range_bad_end first bad = tests ∙ ap₂ (λ i k. i && k) first.good (sym (at_end first) ∙ bad)
+
+-- nothing is removed by an empty range
+pub removed-empty : (t : List ℕ) (a b : ℕ) → a ≡ b → removed t a b ≡ t
+removed-empty t a b same =
+    let here = rest a t in
+    let zero_long : b - a ≡ 0 = omega (arith, same) in
+    let none_there : front (b - a) here ≡ [] = ap (λ k. front k here) zero_long ∙ ap (λ k. take k here) (offset-rest t a) in
+    let all_there : rest (b - a) here ≡ here = ap (λ k. rest k here) zero_long ∙ ap (λ k. drop k here) (offset-rest t a) in
+    ap₂ (λ u v. (front a t ++ sequences u) ++ v) none_there all_there
+    ∙ ap (λ u. u ++ here) (append-nil (front a t)) ∙ take-append-drop (offset_of t a) t
+
+-- It is no longer than the text.
+
+length-mark_pieces : (ps : List Piece) → length (spelled (mark_pieces ps)) ≤ length (spelled ps)
+length-mark_pieces [] = omega arith
+length-mark_pieces (Text w ∷ ps) = omega (arith, length-append w (spelled ps), length-mark_pieces ps)
+length-mark_pieces (p ∷ ps) = omega (arith, length-append (spelling p) (spelled (mark_pieces ps)), length-append (spelling p) (spelled ps), length-mark_pieces ps)
+
+pub length-removed : (t : List ℕ) (a b : ℕ) (u : List ℕ) → u ≡ removed t a b → length u ≤ length t
+length-removed t a b u is =
+    let here = rest a t in
+    let part = front (b - a) here in
+    omega (
+      arith,
+      ap length is,
+      length-append (front a t ++ sequences part) (rest (b - a) here),
+      length-append (front a t) (sequences part),
+      length-mark_pieces (pieces_of part),
+      ap length (spelled-pieces_of part),
+      length-both t a,
+      length-both here (b - a),
+    )
+
+-- The sequences of a whole text are a whole text without plain bytes, after which the style is the same.
+
+styled_through-marks : (s : Rendition) (ps : List Piece) → styled_through s (mark_pieces ps) ≡ []
+styled_through-marks s [] = refl
+styled_through-marks s (Text w ∷ ps) = styled_through-marks s ps
+styled_through-marks s (p ∷ ps) = styled_through-marks (apply s (spelling p)) ps
+
+style_through-marks : (s : Rendition) (ps : List Piece) → style_through s (mark_pieces ps) ≡ style_through s ps
+style_through-marks s [] = refl
+style_through-marks s (Text w ∷ ps) = style_through-marks s ps
+style_through-marks s (p ∷ ps) = style_through-marks (apply s (spelling p)) ps
+
+module _ (t : List ℕ) (whole : IsTrue (is_whole t)) where
+  stand : AllStandAnywhere (mark_pieces (pieces_of t))
+  stand = filter_stand (λ p. not (is_text p)) (pieces_of t) (pieces_stand t whole)
+
+  is_whole-sequences : IsTrue (is_whole (sequences t))
+  is_whole-sequences = is_whole-spelled (mark_pieces (pieces_of t)) stand
+
+  styled_from-sequences : (s : Rendition) → styled_from s (sequences t) ≡ []
+  styled_from-sequences s = styled_from-spelled s (mark_pieces (pieces_of t)) stand ∙ styled_through-marks s (pieces_of t)
+
+  style_after-sequences : (s : Rendition) → style_after_from s (sequences t) ≡ style_after_from s t
+  style_after-sequences s = style_after_from-spelled s (mark_pieces (pieces_of t)) stand ∙ style_through-marks s (pieces_of t) ∙ sym (style_after_from-pieces s t)
+
+-- Sequences in a row.
+
+abbrev spelled_marks : List Piece → List ℕ
+spelled_marks ps = spelled (mark_pieces ps)
+
+marks-after_text : (w : List ℕ) (ps : List Piece) → spelled_marks (after_text w ps) ≡ spelled_marks ps
+marks-after_text w [] = refl
+marks-after_text w (Text v ∷ ps) = refl
+marks-after_text w (p ∷ ps) = refl
+
+marks-merged : (ps : List Piece) → spelled_marks (merged ps) ≡ spelled_marks ps
+marks-merged [] = refl
+marks-merged (Text w ∷ ps) = marks-after_text w (merged ps) ∙ marks-merged ps
+marks-merged (p ∷ ps) = ap (λ u. spelling p ++ u) (marks-merged ps)
+
+marks-twice : (ps : List Piece) → mark_pieces (mark_pieces ps) ≡ mark_pieces ps
+marks-twice [] = refl
+marks-twice (Text w ∷ ps) = marks-twice ps
+marks-twice (p ∷ ps) = ap (λ qs. p ∷ qs) (marks-twice ps)
+
+sequences-append : (u v : List ℕ) → IsTrue (is_whole u) → IsTrue (is_whole v) → sequences (u ++ v) ≡ sequences u ++ sequences v
+sequences-append u v whole_u whole_v =
+    ap spelled_marks (pieces_of-append u v whole_u whole_v) ∙ marks-merged (pieces_of u ++ pieces_of v)
+    ∙ ap spelled (filter-append (λ p. not (is_text p)) (pieces_of u) (pieces_of v))
+    ∙ flat_map-append spelling (mark_pieces (pieces_of u)) (mark_pieces (pieces_of v))
+
+sequences-twice : (t : List ℕ) → IsTrue (is_whole t) → sequences (sequences t) ≡ sequences t
+sequences-twice t whole =
+    ap spelled_marks (pieces_of-spelled (mark_pieces (pieces_of t)) (stand t whole)) ∙ marks-merged (mark_pieces (pieces_of t)) ∙ ap spelled (marks-twice (pieces_of t))
+
+sequences-parts : (t : List ℕ) (n : ℕ) → IsTrue (is_whole t) → sequences t ≡ sequences (front n t) ++ sequences (rest n t)
+sequences-parts t n whole = ap sequences (sym (take-append-drop (offset_of t n) t)) ∙ sequences-append (front n t) (rest n t) (is_whole-front t n whole) (is_whole-rest t n whole)
+
+-- The styled bytes of a front and of the rest.
+
+take_parts : (n : ℕ) (u v : List StyledByte) → length u ≡ min n (length u + length v) → take n (u ++ v) ≡ u
+take_parts n u v size = elim (cases_lt (length u) n) [
+  | inl short ↦ (
+      let none : v ≡ [] = nil_from_length v (omega (arith, size, short)) in
+      ap (λ w. take n (u ++ w)) none ∙ ap (take n) (append-nil u) ∙ take_all n u (omega (arith, short)))
+  | inr long ↦ take-append-le n u v long ∙ take_all n u (omega (arith, size, long))
+]
+
+drop_parts : (n : ℕ) (u v : List StyledByte) → length u ≡ min n (length u + length v) → drop n (u ++ v) ≡ v
+drop_parts n u v size = elim (cases_lt (length u) n) [
+  | inl short ↦ (
+      let none : v ≡ [] = nil_from_length v (omega (arith, size, short)) in
+      drop_all n (u ++ v) (omega (arith, length-append u v, ap length none, short)) ∙ sym none)
+  | inr long ↦ (
+      let none : n - length u ≡ 0 = omega (arith, size, long) in
+      drop-append n u v ∙ ap₂ (λ w k. w ++ drop k v) (drop_all n u (omega (arith, size, long))) none)
+]
+
+size-front : (s : Rendition) (t : List ℕ) (n : ℕ) → IsTrue (is_whole t) → length (styled_from s (front n t)) ≡ min n (length (styled_from s (front n t)) + length (styled_from (style_within s t n) (rest n t)))
+size-front s t n whole =
+    let u = styled_from s (front n t) in
+    let v = styled_from (style_within s t n) (rest n t) in
+    let all : length u + length v ≡ length (plain t) = sym (length-append u v) ∙ sym (ap length (styled_from-parts s t n whole)) ∙ length-styled_from s t in
+    length-styled_from s (front n t) ∙ ap length (is_cut_after t n (offset_of t n) refl).plain_front ∙ length-take n (plain t) ∙ ap (min n) (sym all)
+
+styled_from-front : (s : Rendition) (t : List ℕ) (n : ℕ) → IsTrue (is_whole t) → styled_from s (front n t) ≡ take n (styled_from s t)
+styled_from-front s t n whole =
+    sym (ap (take n) (styled_from-parts s t n whole) ∙ take_parts n (styled_from s (front n t)) (styled_from (style_within s t n) (rest n t)) (size-front s t n whole))
+
+styled_from-rest : (s : Rendition) (t : List ℕ) (n : ℕ) → IsTrue (is_whole t) → styled_from (style_within s t n) (rest n t) ≡ drop n (styled_from s t)
+styled_from-rest s t n whole =
+    sym (ap (drop n) (styled_from-parts s t n whole) ∙ drop_parts n (styled_from s (front n t)) (styled_from (style_within s t n) (rest n t)) (size-front s t n whole))
+
+-- So a range is removed of a whole text.
+
+unstyled-parts : (bs cs : List StyledByte) (a b : ℕ) → bs ≡ take a cs ++ drop b cs → unstyled bs ≡ take a (unstyled cs) ++ drop b (unstyled cs)
+unstyled-parts bs cs a b is =
+    let byte = λ (c : StyledByte). c.byte in
+    ap unstyled is ∙ map-append byte (take a cs) (drop b cs) ∙ ap₂ (λ u v. u ++ v) (sym (take-map byte a cs)) (sym (drop-map byte b cs))
+
+pub is_removed : (t : List ℕ) (a b : ℕ) → a ≤ b → IsTrue (is_whole t) → IsRemoved t a b (removed t a b)
+is_removed t a b ordered whole =
+    let n = b - a in
+    let here = rest a t in
+    let part = front n here in
+    let last = rest n here in
+    let s = style_within plain_style t a in
+    let q = style_within s here n in
+    let f = front a t in
+    let g = sequences part in
+    let whole_f = is_whole-front t a whole in
+    let whole_here = is_whole-rest t a whole in
+    let whole_part = is_whole-front here n whole_here in
+    let whole_last = is_whole-rest here n whole_here in
+    let whole_g = is_whole-sequences part whole_part in
+    let whole_fg = is_whole-append f g whole_f whole_g in
+    let after_f : style_after_from plain_style f ≡ s = style_after-front plain_style t a in
+    let after_g : style_after_from s g ≡ q = style_after-sequences part whole_part s ∙ style_after-front s here n in
+    let after_fg : style_after_from plain_style (f ++ g) ≡ q = style_after_from-append plain_style f g whole_f whole_g ∙ ap (λ r. style_after_from r g) after_f ∙ after_g in
+    let bytes_fg : styled_from plain_style (f ++ g) ≡ take a (styled t)
+    = styled_from-append plain_style f g whole_f whole_g
+    ∙ ap (λ v. styled_from plain_style f ++ v) (styled_from-sequences part whole_part (style_after_from plain_style f))
+    ∙ append-nil (styled_from plain_style f) ∙ styled_from-front plain_style t a whole in
+    let sum : a + n ≡ b = omega (arith, ordered) in
+    let bytes_last : styled_from q last ≡ drop b (styled t)
+    = styled_from-rest s here n whole_here ∙ ap (drop n) (styled_from-rest plain_style t a whole) ∙ drop-drop n a (styled t) ∙ ap (λ k. drop k (styled t)) sum in
+    let bytes : styled (removed t a b) ≡ take a (styled t) ++ drop b (styled t)
+    = styled_from-append plain_style (f ++ g) last whole_fg whole_last ∙ ap₂ (λ u v. u ++ v) bytes_fg (ap (λ r. styled_from r last) after_fg ∙ bytes_last) in
+    record {
+      styled_bytes = bytes;
+      plain_text = sym (unstyled-styled (removed t a b)) ∙ unstyled-parts (styled (removed t a b)) (styled t) a b bytes ∙ ap (λ x. take a x ++ drop b x) (unstyled-styled t);
+      all_sequences = sequences-append (f ++ g) last whole_fg whole_last
+          ∙ ap (λ u. u ++ sequences last) (sequences-append f g whole_f whole_g ∙ ap (λ u. sequences f ++ u) (sequences-twice part whole_part))
+          ∙ append_assoc (sequences f) g (sequences last)
+          ∙ sym (sequences-parts t a whole ∙ ap (λ u. sequences f ++ u) (sequences-parts here n whole_here));
+      whole = is_whole-append (f ++ g) last whole_fg whole_last;
+      open_at_end =
+          ap known (
+          style_after_from-append plain_style (f ++ g) last whole_fg whole_last ∙ ap (λ r. style_after_from r last) after_fg
+          ∙ sym (style_after-parts plain_style t a whole ∙ style_after-parts s here n whole_here));
+    }

@@ -1,0 +1,58 @@
+//! A text without a part.
+ghost use Rattle.std.specs.Prelude.{◌≡◌, ◌↔◌, ◌⊎◌, ◌≤◌, Some, length, IfOk, IfSome, IsFalse, IsNone, IsOk};
+ghost use Rattle.std.specs.Prelude.{IsTrue};
+ghost use Rattle.std.specs.Cow.{cow_str_bytes, IsBorrowedStr};
+ghost use Rattle.ansi_items.specs.Plain.{plain, is_whole};
+ghost use Rattle.ansi_search.specs.Positions.{is_good_range};
+ghost use Rattle.ansi_restyle.specs.Removed.{removed, IsRemoved};
+
+use crate::rest::Rest;
+use ansi_slice::slice::push_sequences;
+use ansi_style::styles;
+use std::alloc::{AllocError, Allocator};
+use std::borrow::CowStr;
+
+/// Like `AnsiRestyle::ansi_remove`, with a result that lives as long as the text, and with any
+/// allocator.
+///
+/// ```
+/// let shorter = remove_in(rt.alloc(), "a \x1b[31mred\x1b[39m b", (1, 4));
+/// assert!(rt; matches!(&shorter, Ok(Some(shorter)) if shorter.as_str() == "a\x1b[31md\x1b[39m b"));
+/// ```
+pub fn remove_in<'t, A: Allocator>(
+    alloc: A,
+    text: &'t str,
+    range: (usize, usize),
+) -> Result<Option<CowStr<'t, A>>, AllocError>
+    ensures headline { IsTrue (is_whole text.now) → IfOk result (λ o. IfSome o (λ c.
+        IsRemoved text.now range.0 range.1 (cow_str_bytes c))) }
+    ensures none { IfOk result (λ o.
+        IsNone o ↔ IsFalse (is_good_range (plain text.now) range.0 (Some range.1))) }
+    ensures bytes { IfOk result (λ o. IfSome o (λ c.
+        cow_str_bytes c ≡ removed text.now range.0 range.1)) }
+    ensures borrowed { IfOk result (λ o. IfSome o (λ c. IsBorrowedStr c ↔ (range.0 ≡ range.1))) }
+    ensures len { IfOk result (λ o. IfSome o (λ c. length (cow_str_bytes c) ≤ length text.now)) }
+    ensures takes_no_memory { (range.0 ≡ range.1)
+        ⊎ IsFalse (is_good_range (plain text.now) range.0 (Some range.1)) → IsOk result }
+{
+    let (start, end) = range;
+    if end < start {
+        return Ok(None);
+    }
+    let mut style = styles::plain_style();
+    let Some(at_start) = Rest::new(text).split_at(&mut style, start) else {
+        return Ok(None);
+    };
+    let len = end - start;
+    let Some(at_end) = at_start.rest.split_at(&mut style, len) else {
+        return Ok(None);
+    };
+    if start == end {
+        return Ok(Some(CowStr::Borrowed(text)));
+    }
+    let mut shorter = String::with_capacity(alloc, text.len())?;
+    shorter.push_str(at_start.front)?;
+    push_sequences(&mut shorter, at_end.front, len)?;
+    shorter.push_str(at_end.rest.text)?;
+    Ok(Some(CowStr::Owned(shorter)))
+}
