@@ -1,11 +1,11 @@
 -- What is left of a text without a range of its plain text.
-use Rattle.std.proofs.Common.{◌≡◌, ℕ, ◌+◌, ◌-◌, ◌≤◌, min, inl, inr, true, false, not, ◌&&◌, List, [], ◌∷◌, ◌++◌, length, filter, take, drop, Some, refl, sym, ◌∙◌, ap, ap₂, arith, IsTrue, append-nil, append_assoc, length-append}
+use Rattle.std.proofs.Common.{◌≡◌, ℕ, ◌+◌, ◌-◌, ◌≤◌, min, inl, inr, Bool, false, not, ◌&&◌, List, [], ◌∷◌, ◌++◌, length, filter, take, drop, refl, sym, ◌∙◌, ap, ap₂, arith, IsTrue, append-nil, append_assoc, length-append, nat_le}
+use Rattle.std.proofs.Math.Bool.{and-true}
 use Rattle.std.proofs.lemmas.Bool.{cases_lt, le-leb}
 use Rattle.std.proofs.lemmas.Grind.{flat_map-append}
 use Rattle.std.proofs.lemmas.List.{take-append-drop, take-append-le, take_all, drop_all, nil_from_length, map-append, length-take, drop-drop}
 use Rattle.std.proofs.lemmas.List.Elements.{filter-append}
 use Rattle.std.specs.List.{take-map, drop-map}
-use Rattle.std.specs.Str.{IsUtf8}
 use Rattle.ansi_items.specs.Pieces.{Piece, Text, spelling, pieces_of, after_text, merged}
 use Rattle.ansi_items.specs.Plain.{plain, plain_of, joined, marks_of, marks_up_to, is_text, is_whole}
 use Rattle.ansi_items.proofs.JoinLemmas.{spelled, AllStandAnywhere, pieces_of-spelled, pieces_of-append, is_whole-spelled, is_whole-append, pieces_stand, spelled-pieces_of}
@@ -17,15 +17,14 @@ use Rattle.ansi_style.specs.Styled.{StyledByte, styled, unstyled}
 use Rattle.ansi_style.proofs.MarkLemmas.{marks_of-mark, marks_up_to-here}
 use Rattle.ansi_style.proofs.StyledLemmas.{style_through, styled_through, style_after_from-pieces, unstyled-styled}
 use Rattle.ansi_style.proofs.SpelledLemmas.{styled_from-spelled, style_after_from-spelled, styled_from-append, style_after_from-append}
-use Rattle.ansi_items.proofs.Utf8Lemmas.{IsUtf8-plain}
 use Rattle.ansi_search.specs.Offsets.{offset_of}
-use Rattle.ansi_search.specs.Positions.{is_good_range, no_character_goes_on}
-use Rattle.ansi_search.proofs.PositionLemmas.{good_range-utf8}
+use Rattle.ansi_search.specs.Positions.{is_char_boundary, no_character_goes_on}
 use Rattle.ansi_search.proofs.SliceLemmas.{drop-append}
 use Rattle.ansi_slice.specs.Stretches.{sequences_up_to}
 use Rattle.ansi_slice.proofs.StretchLemmas.{sequences_up_to-text}
 use Rattle.ansi_split.proofs.AfterLemmas.{is_cut_after}
 use Rattle.ansi_restyle.specs.Rests.{IsDivided}
+use Rattle.ansi_restyle.specs.Ranges.{are_in_turn}
 use Rattle.ansi_restyle.specs.Restyled.{front, rest}
 use Rattle.ansi_restyle.specs.Removed.{sequences, removed, IsRemoved}
 use Rattle.ansi_restyle.proofs.EmptyLemmas.{offset-rest}
@@ -61,27 +60,29 @@ removed-written t before after part last a b first second =
     (ap₂ (λ u v. u ++ v) first.front_is (all ∙ ap sequences (second.front_is ∙ ap (front (b - a)) first.rest_is)))
     (second.rest_is ∙ ap (rest (b - a)) first.rest_is)
 
--- Which ranges are good: those that begin and end where the text can be divided.
+-- Which ranges are good: those that begin and end where the text can be divided, and aren't past its end.
 
-module _ (t : List ℕ) (a b : ℕ) (utf8 : IsUtf8 t) (ordered : a ≤ b) where
-  tests : is_good_range (plain t) a (Some b) ≡ (no_character_goes_on (plain t) a && no_character_goes_on (plain t) b)
+module _ (t : List ℕ) (r : ℕ × ℕ) (ordered : r.0 ≤ r.1) where
+  tests : are_in_turn (plain t) 0 (r ∷ []) ≡ (no_character_goes_on (plain t) r.0 && (no_character_goes_on (plain t) r.1 && nat_le r.1 (length (plain t))))
   tests =
-      good_range-utf8 (plain t) a b (IsUtf8-plain t utf8)
-      ∙ ap (λ k. k && (no_character_goes_on (plain t) a && no_character_goes_on (plain t) b)) (le-leb a b ordered)
+      ap₂ (λ i k. i && (k && (no_character_goes_on (plain t) r.0 && (no_character_goes_on (plain t) r.1 && nat_le r.1 (length (plain t)))))) (le-leb 0 r.0 (omega arith)) (le-leb r.0 r.1 ordered)
 
-  at_end : {before after : List ℕ} → IsDivided t a before after → no_character_goes_on (plain after) (b - a) ≡ no_character_goes_on (plain t) b
+  at_end : {before after : List ℕ} → IsDivided t r.0 before after → no_character_goes_on (plain after) (r.1 - r.0) ≡ no_character_goes_on (plain t) r.1
   at_end {before} {after} first =
-      let is : IsLeft (plain t) a after = record { there = ap plain first.rest_is ∙ plain-rest t a } in
-      goes_on-left b is ordered
+      let is : IsLeft (plain t) r.0 after = record { there = ap plain first.rest_is ∙ plain-rest t r.0 } in
+      goes_on-left r.1 is ordered
 
-  pub range_good : {before after part last : List ℕ} → IsDivided t a before after → IsDivided after (b - a) part last → is_good_range (plain t) a (Some b) ≡ true
-  range_good first second = tests ∙ ap₂ (λ i k. i && k) first.good (sym (at_end first) ∙ second.good)
+  pub range_divided : {before after part last : List ℕ} {good : Bool} → IsDivided t r.0 before after → IsDivided after (r.1 - r.0) part last → is_char_boundary (plain t) r.1 ≡ good → are_in_turn (plain t) 0 (r ∷ []) ≡ good
+  range_divided first second is =
+      let good_end = sym (at_end first) ∙ second.good in
+      tests ∙ ap₂ (λ i k. i && (k && nat_le r.1 (length (plain t)))) first.good good_end
+      ∙ sym (ap (λ k. nat_le r.1 (length (plain t)) && k) good_end ∙ and-true (nat_le r.1 (length (plain t)))) ∙ is
 
-  pub range_bad_start : no_character_goes_on (plain t) a ≡ false → is_good_range (plain t) a (Some b) ≡ false
-  range_bad_start bad = tests ∙ ap (λ i. i && no_character_goes_on (plain t) b) bad
+  pub range_bad_start : no_character_goes_on (plain t) r.0 ≡ false → are_in_turn (plain t) 0 (r ∷ []) ≡ false
+  range_bad_start bad = tests ∙ ap (λ i. i && (no_character_goes_on (plain t) r.1 && nat_le r.1 (length (plain t)))) bad
 
-  pub range_bad_end : {before after : List ℕ} → IsDivided t a before after → no_character_goes_on (plain after) (b - a) ≡ false → is_good_range (plain t) a (Some b) ≡ false
-  range_bad_end first bad = tests ∙ ap₂ (λ i k. i && k) first.good (sym (at_end first) ∙ bad)
+  pub range_bad_end : {before after : List ℕ} → IsDivided t r.0 before after → no_character_goes_on (plain after) (r.1 - r.0) ≡ false → are_in_turn (plain t) 0 (r ∷ []) ≡ false
+  range_bad_end first bad = tests ∙ ap₂ (λ i k. i && (k && nat_le r.1 (length (plain t)))) first.good (sym (at_end first) ∙ bad)
 
 -- nothing is removed by an empty range
 pub removed-empty : (t : List ℕ) (a b : ℕ) → a ≡ b → removed t a b ≡ t

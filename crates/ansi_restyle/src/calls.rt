@@ -1,6 +1,6 @@
 //! The calls on any text.
-ghost use Rattle.std.specs.Prelude.{◌≡◌, ◌≤◌, ◌+◌, ◌-◌, ◌*◌, ◌↔◌, ◌⊎◌, ◌&&◌, Some, filter, length};
-ghost use Rattle.std.specs.Prelude.{IfOk, IfSome, IsFalse, IsNone, IsOk, IsTrue};
+ghost use Rattle.std.specs.Prelude.{◌≡◌, ◌≤◌, ◌+◌, ◌-◌, ◌*◌, ◌↔◌, ◌⊎◌, ◌&&◌, ◌∷◌, [], Some, filter};
+ghost use Rattle.std.specs.Prelude.{length, IfOk, IfSome, IsFalse, IsNone, IsOk, IsTrue};
 ghost use Rattle.std.specs.Cow.{cow_str_bytes, IsBorrowedStr};
 ghost use Rattle.ansi_items.specs.Pieces.{pieces_of};
 ghost use Rattle.ansi_items.specs.Plain.{plain, is_text, is_whole};
@@ -152,9 +152,9 @@ pub trait AnsiRestyle: AnsiStr {
     /// The text without a range of its plain text.
     ///
     /// Every sequence stays, so each character before the range or after it keeps its style. A
-    /// range is a pair of positions, which count bytes of the plain text. A position past the end
-    /// counts as the end. It is `None` exactly if the range is bad, as for `ansi_get`: if a position
-    /// is inside a character, or the end is below the start.
+    /// range is a pair of positions, which count bytes of the plain text. It is `None` exactly if
+    /// `ansi_restyle` would refuse the range: if it ends before it begins, or a position of it is
+    /// past the end of the plain text or inside a character.
     ///
     /// It is a borrow if the range ends where it begins. A borrow and a `None` don't allocate.
     /// Otherwise it is owned, and no longer than the text. `Err` means out of memory. Takes time in
@@ -163,6 +163,7 @@ pub trait AnsiRestyle: AnsiStr {
     /// ```
     /// let shorter = "one \x1b[1mtwo\x1b[22m three".ansi_remove(rt.alloc(), (2, 5));
     /// assert!(rt; matches!(&shorter, Ok(Some(shorter)) if shorter.as_str() == "on\x1b[1mwo\x1b[22m three"));
+    /// assert!(rt; matches!("one".ansi_remove(rt.alloc(), (2, 5)), Ok(None)));
     /// ```
     final fn ansi_remove(
         &self,
@@ -172,7 +173,7 @@ pub trait AnsiRestyle: AnsiStr {
         ensures headline { IsTrue (is_whole (Self.text self.now)) → IfOk result (λ o. IfSome o (λ c.
             IsRemoved (Self.text self.now) range.0 range.1 (cow_str_bytes c))) }
         ensures none { IfOk result (λ o. IsNone o
-            ↔ IsFalse (is_good_range (plain (Self.text self.now)) range.0 (Some range.1))) }
+            ↔ IsFalse (are_in_turn (plain (Self.text self.now)) 0 (range ∷ []))) }
         ensures bytes { IfOk result (λ o. IfSome o (λ c.
             cow_str_bytes c ≡ removed (Self.text self.now) range.0 range.1)) }
         ensures borrowed { IfOk result (λ o. IfSome o (λ c.
@@ -180,8 +181,7 @@ pub trait AnsiRestyle: AnsiStr {
         ensures len { IfOk result (λ o. IfSome o (λ c.
             length (cow_str_bytes c) ≤ length (Self.text self.now))) }
         ensures takes_no_memory { (range.0 ≡ range.1)
-            ⊎ IsFalse (is_good_range (plain (Self.text self.now)) range.0 (Some range.1)) →
-            IsOk result }
+            ⊎ IsFalse (are_in_turn (plain (Self.text self.now)) 0 (range ∷ [])) → IsOk result }
     {
         remove_in(alloc, self.as_text(), range)
     }

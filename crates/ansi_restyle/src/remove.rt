@@ -1,12 +1,13 @@
 //! A text without a part.
-ghost use Rattle.std.specs.Prelude.{◌≡◌, ◌↔◌, ◌⊎◌, ◌≤◌, Some, length, IfOk, IfSome, IsFalse, IsNone, IsOk};
-ghost use Rattle.std.specs.Prelude.{IsTrue};
+ghost use Rattle.std.specs.Prelude.{◌≡◌, ◌↔◌, ◌⊎◌, ◌≤◌, ◌∷◌, [], length, IfOk, IfSome, IsFalse, IsNone};
+ghost use Rattle.std.specs.Prelude.{IsOk, IsTrue};
 ghost use Rattle.std.specs.Cow.{cow_str_bytes, IsBorrowedStr};
 ghost use Rattle.ansi_items.specs.Plain.{plain, is_whole};
-ghost use Rattle.ansi_search.specs.Positions.{is_good_range};
+ghost use Rattle.ansi_restyle.specs.Ranges.{are_in_turn};
 ghost use Rattle.ansi_restyle.specs.Removed.{removed, IsRemoved};
 
 use crate::rest::Rest;
+use ansi_search::search;
 use ansi_slice::slice::push_sequences;
 use ansi_style::styles;
 use std::alloc::{AllocError, Allocator};
@@ -27,13 +28,13 @@ pub fn remove_in<'t, A: Allocator>(
     ensures headline { IsTrue (is_whole text.now) → IfOk result (λ o. IfSome o (λ c.
         IsRemoved text.now range.0 range.1 (cow_str_bytes c))) }
     ensures none { IfOk result (λ o.
-        IsNone o ↔ IsFalse (is_good_range (plain text.now) range.0 (Some range.1))) }
+        IsNone o ↔ IsFalse (are_in_turn (plain text.now) 0 (range ∷ []))) }
     ensures bytes { IfOk result (λ o. IfSome o (λ c.
         cow_str_bytes c ≡ removed text.now range.0 range.1)) }
     ensures borrowed { IfOk result (λ o. IfSome o (λ c. IsBorrowedStr c ↔ (range.0 ≡ range.1))) }
     ensures len { IfOk result (λ o. IfSome o (λ c. length (cow_str_bytes c) ≤ length text.now)) }
     ensures takes_no_memory { (range.0 ≡ range.1)
-        ⊎ IsFalse (is_good_range (plain text.now) range.0 (Some range.1)) → IsOk result }
+        ⊎ IsFalse (are_in_turn (plain text.now) 0 (range ∷ [])) → IsOk result }
 {
     let (start, end) = range;
     if end < start {
@@ -47,6 +48,9 @@ pub fn remove_in<'t, A: Allocator>(
     let Some(at_end) = at_start.rest.split_at(&mut style, len) else {
         return Ok(None);
     };
+    if !search::is_char_boundary(text, end) {
+        return Ok(None);
+    }
     if start == end {
         return Ok(Some(CowStr::Borrowed(text)));
     }

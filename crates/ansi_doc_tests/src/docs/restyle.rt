@@ -79,4 +79,5 @@ fn ansi_remove_example(rt: HostRuntime) {
     assert!(rt;
         matches!(&shorter, Ok(Some(shorter)) if shorter.as_str() == "on\x1b[1mwo\x1b[22m three")
     );
+    assert!(rt; matches!("one".ansi_remove(rt.alloc(), (2, 5)), Ok(None)));
 }

@@ -4,28 +4,33 @@ use Rattle.ansi_items.specs.Plain.{plain}
 use Rattle.ansi_search.proofs.PositionLemmas.{no_character_goes_on-past, none_if_bad, some_if_good}
 use Rattle.ansi_slice.specs.Stretches.{sequences_up_to}
 use Rattle.ansi_restyle.specs.Removed.{IsRemoved}
-use Rattle.ansi_restyle.proofs.RemovedLemmas.{length-part, removed-written, removed-empty, length-removed, is_removed, range_good, range_bad_start, range_bad_end}
+use Rattle.ansi_restyle.proofs.RemovedLemmas.{length-part, removed-written, removed-empty, length-removed, is_removed, range_divided, range_bad_start, range_bad_end}
 use Rattle.ansi_restyle.proofs.remove.remove_in.Goals as goal
 
 -- a bad range
 
 pub returns-in_default-clause-none : goal.returns-in_default-clause-none
 returns-in_default-clause-none g c =
-    let t = c.args.text.now in
     let bad = rw c.new.ensures at c.in_default.ensures.divided in
-    none_if_bad (range_bad_start t c.args.range.0 c.args.range.1 c.utf8.text c.if-end-start.false bad)
+    none_if_bad (range_bad_start c.args.text.now c.args.range c.if-end-start.false bad)
 
 pub returns-in_default-split_at-clause-none : goal.returns-in_default-split_at-clause-none
 returns-in_default-split_at-clause-none g c =
     let first = rw c.new.ensures at c.in-Some.ensures.divided in
-    none_if_bad (range_bad_end c.args.text.now c.args.range.0 c.args.range.1 c.utf8.text c.if-end-start.false first c.in_default-split_at.ensures.divided)
+    none_if_bad (range_bad_end c.args.text.now c.args.range c.if-end-start.false first c.in_default-split_at.ensures.divided)
+
+pub returns-then-not-is_char_boundary-clause-none : goal.returns-then-not-is_char_boundary-clause-none
+returns-then-not-is_char_boundary-clause-none g c =
+    let first = rw c.new.ensures at c.in-Some.ensures.divided in
+    none_if_bad (range_divided c.args.text.now c.args.range c.if-end-start.false first c.in-Some-split_at.ensures.divided (sym c.is_char_boundary.ensures.value ∙ c.if-not-is_char_boundary.true))
 
 -- an empty one
 
 pub returns-then-start-end-clause-none : goal.returns-then-start-end-clause-none
 returns-then-start-end-clause-none g c =
     let first = rw c.new.ensures at c.in-Some.ensures.divided in
-    some_if_good (range_good c.args.text.now c.args.range.0 c.args.range.1 c.utf8.text c.if-end-start.false first c.in-Some-split_at.ensures.divided)
+    some_if_good (range_divided c.args.text.now c.args.range c.if-end-start.false first c.in-Some-split_at.ensures.divided
+    (sym c.is_char_boundary.ensures.value ∙ c.if-not-is_char_boundary.false))
 
 pub returns-then-start-end-clause-bytes : goal.returns-then-start-end-clause-bytes
 returns-then-start-end-clause-bytes g c = sym (removed-empty c.args.text.now c.args.range.0 c.args.range.1 c.if-start-end.true)
@@ -40,19 +45,22 @@ returns-then-start-end-clause-headline g c =
 pub returns-in_err-shorter-clause-takes_no_memory : goal.returns-in_err-shorter-clause-takes_no_memory
 returns-in_err-shorter-clause-takes_no_memory g c =
     let first = rw c.new.ensures at c.in-Some.ensures.divided in
-    let good = range_good c.args.text.now c.args.range.0 c.args.range.1 c.utf8.text c.if-end-start.false first c.in-Some-split_at.ensures.divided in
+    let good = range_divided c.args.text.now c.args.range c.if-end-start.false first c.in-Some-split_at.ensures.divided
+    (sym c.is_char_boundary.ensures.value ∙ c.if-not-is_char_boundary.false) in
     λ either. elim either [ inl same ↦ absurd (c.if-start-end.false same) | inr bad ↦ absurd (cc (good, bad)) ]
 
 pub returns-in_err-push_sequences-clause-takes_no_memory : goal.returns-in_err-push_sequences-clause-takes_no_memory
 returns-in_err-push_sequences-clause-takes_no_memory g c =
     let first = rw c.new.ensures at c.in-Some.ensures.divided in
-    let good = range_good c.args.text.now c.args.range.0 c.args.range.1 c.utf8.text c.if-end-start.false first c.in-Some-split_at.ensures.divided in
+    let good = range_divided c.args.text.now c.args.range c.if-end-start.false first c.in-Some-split_at.ensures.divided
+    (sym c.is_char_boundary.ensures.value ∙ c.if-not-is_char_boundary.false) in
     λ either. elim either [ inl same ↦ absurd (c.if-start-end.false same) | inr bad ↦ absurd (cc (good, bad)) ]
 
 pub returns-in_err-push_str-2-clause-takes_no_memory : goal.returns-in_err-push_str-2-clause-takes_no_memory
 returns-in_err-push_str-2-clause-takes_no_memory g c =
     let first = rw c.new.ensures at c.in-Some.ensures.divided in
-    let good = range_good c.args.text.now c.args.range.0 c.args.range.1 c.utf8.text c.if-end-start.false first c.in-Some-split_at.ensures.divided in
+    let good = range_divided c.args.text.now c.args.range c.if-end-start.false first c.in-Some-split_at.ensures.divided
+    (sym c.is_char_boundary.ensures.value ∙ c.if-not-is_char_boundary.false) in
     λ either. elim either [ inl same ↦ absurd (c.if-start-end.false same) | inr bad ↦ absurd (cc (good, bad)) ]
 
 -- all sequences of the range are written
@@ -65,7 +73,8 @@ push_sequences-requires g c =
 pub returns-clause-none : goal.returns-clause-none
 returns-clause-none g c =
     let first = rw c.new.ensures at c.in-Some.ensures.divided in
-    some_if_good (range_good c.args.text.now c.args.range.0 c.args.range.1 c.utf8.text c.if-end-start.false first c.in-Some-split_at.ensures.divided)
+    some_if_good (range_divided c.args.text.now c.args.range c.if-end-start.false first c.in-Some-split_at.ensures.divided
+    (sym c.is_char_boundary.ensures.value ∙ c.if-not-is_char_boundary.false))
 
 pub returns-clause-bytes : goal.returns-clause-bytes
 returns-clause-bytes g c =
