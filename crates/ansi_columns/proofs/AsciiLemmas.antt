@@ -23,13 +23,13 @@ use Rattle.ucd_emoji.proofs.Computing.{ucd_emoji}
 use Rattle.unicode_segmentation.specs.Grapheme.{is_grapheme_break, break_by_pair, ends_in_linker, ends_in_pictograph, ends_in_half_flag}
 use Rattle.unicode_width.proofs.Rules.{str_width-printable}
 use Rattle.ansi_columns.specs.Columns.{cluster_width, columns_of, columns}
-use Rattle.ansi_columns.specs.BreakStates.{break_state_of, IsSingle, IsUnnamed}
+use Rattle.ansi_columns.specs.BreakStates.{break_state_of, IsSingle}
 use Rattle.ansi_columns.specs.Walks.{clusters_after}
 use Rattle.ansi_columns.specs.declared.break_state.BreakState.{BreakState}
 use Rattle.ansi_columns.proofs.ClusterLemmas.{cluster-begins, cluster-ends, cluster-last, clusters-none}
 use Rattle.ucd_breaks.specs.declared.GraphemeClusterBreak.{GraphemeClusterBreak}
 use Rattle.ansi_columns.proofs.BreakLemmas.{joins, is_grapheme_break-decided}
-use Rattle.ansi_columns.proofs.UnnamedLemmas.{break_state-unnamed, breaks-unnamed}
+use Rattle.ansi_columns.proofs.SingleLemmas.{break_state-single, breaks-single}
 
 abbrev pub is_printable : ℕ → Bool
 is_printable = is_in_range 0x20 0x7E
@@ -57,19 +57,17 @@ is_extended_pictographic-printable : (c : ℕ) → is_printable c ≡ true → f
 unfolding ucd_emoji
 is_extended_pictographic-printable c printable = not-false _ (Stepped-below is_extended_pictographic is_extended_pictographic_stepped (λ x v. not v) 0x7F refl c (printable-below_7F c printable))
 
-IsUnnamed-printable : (c : ℕ) → is_printable c ≡ true → IsUnnamed c
-IsUnnamed-printable c printable = record {
-  break = sym (grapheme_cluster_break-printable c printable);
-  conjunct = sym (indic_conjunct_break-printable c printable);
+pub IsSingle-printable : (c : ℕ) → is_printable c ≡ true → IsSingle c
+IsSingle-printable c printable = record {
+  break = inl (sym (grapheme_cluster_break-printable c printable));
+  conjunct = inl (sym (indic_conjunct_break-printable c printable));
   pictograph = sym (is_extended_pictographic-printable c printable);
 }
 
-pub IsSingle-printable : (c : ℕ) → is_printable c ≡ true → IsSingle c
-IsSingle-printable c printable = (let unnamed = IsUnnamed-printable c printable in record { break = inl unnamed.break; conjunct = unnamed.conjunct; pictograph = unnamed.pictograph })
-
 -- after it, as after nothing
 pub break_state-printable : (c : ℕ) (before : List ℕ) → is_printable c ≡ true → break_state_of [] ≡ break_state_of (c ∷ before)
-break_state-printable c before printable = break_state-unnamed c before (IsUnnamed-printable c printable)
+unfolding ends_in_linker ends_in_pictograph ends_in_half_flag
+break_state-printable c before printable = break_state-single c before Other (IsSingle-printable c printable) (grapheme_cluster_break-printable c printable)
 
 -- ---- a text of printable ASCII
 
@@ -77,7 +75,7 @@ pub width-single : (c : ℕ) → is_printable c ≡ true → cluster_width (c �
 width-single c printable = str_width-printable false (c ∷ []) (rw printable refl)
 
 pub breaks-between : (before : List ℕ) (c d : ℕ) (cs : List ℕ) → is_printable c ≡ true → is_printable d ≡ true → is_grapheme_break true (c ∷ before) (d ∷ cs) ≡ true
-breaks-between before c d cs first second = breaks-unnamed before c d cs (IsUnnamed-printable c first) (IsUnnamed-printable d second)
+breaks-between before c d cs first second = breaks-single before c d cs (IsSingle-printable c first) (IsSingle-printable d second)
 
 values_break : (d : ℕ) → d < 0x80 → unwrap_or (break_by_pair true Other (grapheme_cluster_break d)) true ≡ true
 unfolding ucd_breaks

@@ -1,6 +1,6 @@
 pub mod BreakLemmas
 pub mod ClusterLemmas
-pub mod UnnamedLemmas
+pub mod SingleLemmas
 pub mod AsciiLemmas
 pub mod PlaceLemmas
 pub mod ViewLemmas
@@ -16,7 +16,7 @@ pub mod ShownLemmas
 pub mod KeptLemmas
 pub mod ClusterWalkLemmas
 pub mod PrintableLemmas
-pub mod OrdinaryLemmas
+pub mod SingleWalkLemmas
 pub mod AddressLemmas
 pub mod KindLemmas
 pub mod LineLemmas

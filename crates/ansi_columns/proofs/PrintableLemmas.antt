@@ -23,8 +23,8 @@ use Rattle.ansi_columns.specs.declared.views.View.TheVariants.{Given, Shown}
 use Rattle.ansi_columns.specs.Views.{seen_char, seen, seen_len}
 use Rattle.ansi_columns.specs.Walks.{IsRun, IsPrintableFront, IsPastAscii, after, cluster, clusters_after, seen_before, seen_after, seen_cluster, seen_clusters, is_seen_ascii, IsWalkIn, IsNext, IsPrintable, AreClustersIn, IsFittingTo, IsPastClusters, IsPastLast, IsCountedTo, EndsAscii, BreaksAfterAscii, has_width}
 use Rattle.ansi_columns.proofs.AsciiLemmas.{is_printable, printable-below_7F, All-printable_is_ascii, break_state-printable, breaks-before_ascii, width-single, IsSingle-printable}
-use Rattle.ansi_columns.proofs.UnnamedLemmas.{breaks-single}
-use Rattle.ansi_columns.proofs.OrdinaryLemmas.{seen_after-printing}
+use Rattle.ansi_columns.proofs.SingleLemmas.{breaks-single}
+use Rattle.ansi_columns.proofs.SingleWalkLemmas.{seen_after-printing}
 use Rattle.ansi_columns.proofs.ClusterLemmas.{cluster-begins, cluster-ends}
 use Rattle.ansi_columns.proofs.ClusterLawLemmas.{breaks-last}
 use Rattle.ansi_columns.proofs.ColumnLemmas.{bytes_of-append}

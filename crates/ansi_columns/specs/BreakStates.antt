@@ -1,5 +1,5 @@
 -- A summary of the characters before a place, as much as the rules on clusters look back at. No public contract cites it.
-use Rattle.std.specs.Prelude.{◌≡◌, ◌⊎◌, ℕ, Bool, true, false, ◌&&◌, List, [], ◌∷◌, map}
+use Rattle.std.specs.Prelude.{◌≡◌, ◌⊎◌, ℕ, ◌<◌, Bool, true, false, ◌&&◌, List, [], ◌∷◌, map, IsTrue}
 use Rattle.ucd_breaks.specs.GraphemeClusterBreak.{grapheme_cluster_break}
 use Rattle.ucd_breaks.specs.declared.GraphemeClusterBreak.{GraphemeClusterBreak}
 use Rattle.ucd_breaks.specs.declared.GraphemeClusterBreak.TheVariants.{Lv, Lvt, Other}
@@ -8,6 +8,8 @@ use Rattle.ucd_derived.specs.declared.IndicConjunctBreak.{IndicConjunctBreak}
 use Rattle.ucd_derived.specs.declared.IndicConjunctBreak.TheVariants as InCb
 use Rattle.ucd_emoji.specs.Binary.{is_extended_pictographic}
 use Rattle.unicode_segmentation.specs.Grapheme.{ends_in_linker, ends_in_pictograph, ends_in_half_flag, is_zwj}
+use Rattle.ansi_safe.specs.Safe.{is_printing}
+use Rattle.ansi_columns.specs.Columns.{cluster_width}
 use Rattle.ansi_columns.specs.declared.break_state.BreakState.{BreakState}
 
 -- the value of the last character before the place, which the list has first
@@ -41,18 +43,23 @@ break_state_of before = record {
   is_half_flag = ends_in_half_flag before;
 }
 
--- no rule on clusters names the character
-pub record IsUnnamed (c : ℕ) : Type 0 where
-  pub break : grapheme_cluster_break c ≡ Other
-  pub conjunct : indic_conjunct_break c ≡ InCb.None
-  pub pictograph : is_extended_pictographic c ≡ false
-
 -- no rule on clusters joins a character of this value to another one of such a value
 abbrev pub IsSingleValue : GraphemeClusterBreak → Type 0
 IsSingleValue v = (v ≡ Other) ⊎ ((v ≡ Lv) ⊎ (v ≡ Lvt))
 
--- no rule on clusters joins the character to another such one: it is unnamed or a Hangul syllable
+-- no linker, nor what may come after one in a conjunct (GB9c)
+abbrev pub IsSingleConjunct : IndicConjunctBreak → Type 0
+IsSingleConjunct v = (v ≡ InCb.None) ⊎ (v ≡ InCb.Consonant)
+
+-- no rule on clusters joins the character to another such one
 pub record IsSingle (c : ℕ) : Type 0 where
   pub break : IsSingleValue (grapheme_cluster_break c)
-  pub conjunct : indic_conjunct_break c ≡ InCb.None
+  pub conjunct : IsSingleConjunct (indic_conjunct_break c)
   pub pictograph : is_extended_pictographic c ≡ false
+
+-- such a character, which is shown as it is, in this number of columns
+pub record IsShownSingle (c columns : ℕ) : Type 0 where
+  pub single : IsSingle c
+  pub printing : IsTrue (is_printing c)
+  pub some : 0 < columns
+  pub columns_are : columns ≡ cluster_width (c ∷ [])

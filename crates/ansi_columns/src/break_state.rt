@@ -1,15 +1,15 @@
 //! Whether a cluster ends between two characters (UAX #29). The test uses a summary of the
 //! characters before.
-ghost use Rattle.std.specs.Prelude.{◌≡◌, ◌≢◌, ℕ, List, true, [], ◌∷◌, IsTrue};
+ghost use Rattle.std.specs.Prelude.{◌≡◌, ◌≢◌, ℕ, List, true, [], ◌∷◌};
 ghost use Rattle.std.specs.Int.{is_in_range};
 ghost use Rattle.unicode_segmentation.specs.Grapheme.{is_grapheme_break, break_by_pair, is_extend};
 ghost use Rattle.unicode_segmentation.specs.Grapheme.{is_zwj, is_regional, is_consonant};
 ghost use Rattle.ucd_derived.specs.IndicConjunctBreak.{indic_conjunct_break};
 ghost use Rattle.ucd_breaks.specs.GraphemeClusterBreak.{grapheme_cluster_break};
 ghost use Rattle.ucd_emoji.specs.Binary.{is_extended_pictographic};
-ghost use Rattle.ansi_safe.specs.Safe.{is_printing};
-ghost use Rattle.ansi_columns.specs.BreakStates.{break_state_of, is_other, links, IsSingle, IsUnnamed};
+ghost use Rattle.ansi_columns.specs.BreakStates.{break_state_of, is_other, links, IsSingle};
 
+use crate::singles::is_single;
 use ucd_breaks::GraphemeClusterBreak;
 use ucd_breaks::GraphemeClusterBreak::*;
 use ucd_derived::IndicConjunctBreak;
@@ -72,19 +72,14 @@ impl BreakState {
         }
     }
 
-    /// The summary after a character of which `is_single` is true.
+    /// The summary after a single character.
     #[inline(always)]
     pub(crate) fn after_single(c: char) -> BreakState
         requires { IsSingle c }
         ensures { (before : List ℕ) → result ≡ break_state_of (c ∷ before) }
     {
-        let last = if is_syllable(c) {
-            GraphemeClusterBreak::for_char(c)
-        } else {
-            Other
-        };
         BreakState {
-            last,
+            last: single_value(c),
             is_linked: false,
             is_pictograph: false,
             is_joined: false,
@@ -98,10 +93,7 @@ impl BreakState {
         ensures { (before after : List ℕ) → before ≢ [] → self ≡ break_state_of before →
             result ≡ is_grapheme_break true before (next ∷ after) }
     {
-        if is_ordinary(next) {
-            return break_by_pair(self.last, Other).unwrap_or(true);
-        }
-        let value = GraphemeClusterBreak::for_char(next);
+        let value = break_value(next);
         if let Some(is_break) = break_by_pair(self.last, value) {
             return is_break;
         }
@@ -112,38 +104,29 @@ impl BreakState {
     }
 }
 
-/// Whether the character is in a few common ranges: printable ASCII, Latin, Greek, Cyrillic,
-/// Armenian, Hebrew, Arabic, Georgian, Ethiopic, Cherokee, Canadian syllabics, Chinese and Japanese,
-/// punctuation, currencies, mathematical operators, box drawing, Braille, and full-width and
-/// half-width forms. No rule on clusters names a character of them, and each is shown as it is. A
-/// new range goes into `ordinary_ranges` of `UnnamedLemmas` too, and its first bytes into
-/// `walks::may_begin_single`.
+/// The value of a character.
 #[inline(always)]
-fn is_ordinary(c: char) -> bool
-    ensures unnamed { IsTrue result → IsUnnamed c }
-    ensures printing { IsTrue result → IsTrue (is_printing c) }
+fn break_value(c: char) -> GraphemeClusterBreak
+    ensures { result ≡ grapheme_cluster_break c }
 {
-    match c {
-        '\0'..='\u{1F}' => false,
-        ' '..='~' | '\u{C0}'..='\u{2FF}' | '\u{370}'..='\u{482}' | '\u{48A}'..='\u{58F}' => true,
-        '\u{5D0}'..='\u{5EA}' | '\u{620}'..='\u{64A}' | '\u{671}'..='\u{6D3}' => true,
-        '\u{10A0}'..='\u{10FF}' | '\u{1200}'..='\u{135C}' | '\u{1360}'..='\u{16FF}' => true,
-        '\u{1E00}'..='\u{1FFF}' | '\u{2010}'..='\u{2027}' | '\u{20A0}'..='\u{20CF}' => true,
-        '\u{2200}'..='\u{22FF}' | '\u{2500}'..='\u{25A9}' | '\u{2800}'..='\u{28FF}' => true,
-        '\u{3001}'..='\u{3029}' | '\u{3041}'..='\u{3096}' | '\u{309B}'..='\u{30FF}' => true,
-        '\u{3400}'..='\u{9FFF}' | '\u{FF01}'..='\u{FF9D}' => true,
-        _ => false,
+    if is_single(c) {
+        single_value(c)
+    } else {
+        GraphemeClusterBreak::for_char(c)
     }
 }
 
-/// Whether the character is ordinary or a Hangul syllable. A cluster ends between two of these
-/// characters, and each is shown as it is.
+/// The value of a single character.
 #[inline(always)]
-pub(crate) fn is_single(c: char) -> bool
-    ensures single { IsTrue result → IsSingle c }
-    ensures printing { IsTrue result → IsTrue (is_printing c) }
+fn single_value(c: char) -> GraphemeClusterBreak
+    requires { IsSingle c }
+    ensures { result ≡ grapheme_cluster_break c }
 {
-    is_ordinary(c) || is_syllable(c)
+    if is_syllable(c) {
+        GraphemeClusterBreak::for_char(c)
+    } else {
+        Other
+    }
 }
 
 /// Whether the character is a Hangul syllable.

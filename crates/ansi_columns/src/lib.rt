@@ -19,6 +19,7 @@ pub mod lines;
 mod plain_cells;
 pub mod shown;
 pub mod sides;
+mod singles;
 pub mod slices;
 pub mod tabs;
 mod views;

@@ -13,8 +13,9 @@ ghost use Rattle.ansi_columns.specs.Walks.{IsRun, IsWalkIn, IsWalk, IsAnyWalk, I
 ghost use Rattle.ansi_columns.specs.Walks.{IsSeenNext, IsPrintable, IsPrintableFront, AreClustersIn, IsPastAscii, is_seen_ascii};
 ghost use Rattle.ansi_columns.specs.Walks.{IsPastFirst, IsPastLast, IsNextRun, EndsAscii, BreaksAfterAscii, walk_at, walk_at_run};
 
-use crate::break_state::{BreakState, is_single};
+use crate::break_state::BreakState;
 use crate::from_end;
+use crate::singles::{is_single, single_columns};
 use crate::views::View;
 use ansi_items::ansitok::{Item, Kind, Scanner};
 use ansi_safe::printable::printable_len;
@@ -177,26 +178,18 @@ impl Walk {
     }
 
     /// The walk after the next character and the columns of that character, if it and the one after
-    /// it in the run are ordinary or Hangul syllables. Then it is a cluster by itself.
+    /// it in the run are single. Then it is a cluster by itself.
     #[inline(always)]
     fn next_single(self, text: &str) -> Option<(Walk, usize)>
         requires { IsAnyWalk text.now self }
         ensures { IfSome result (λ (walk, width). (view : View) → IsWalkIn view text.now self →
             IsPastCluster view text.now self walk width) }
     {
-        let run = &text.as_bytes()[self.offset..self.run_end];
-        if !(has_second(run) && may_begin_single(run)) {
-            return None;
-        }
         let mut chars = text[self.offset..self.run_end].chars();
         let first = chars.next()?;
-        if !is_single(first) {
-            return None;
-        }
+        let width = single_columns(first)?;
         let second = chars.next()?;
-        if !is_single(second) {
-            return None;
-        }
+        single_columns(second)?;
         let len = first.len_utf8();
         let walk = Walk {
             position: self.position + len,
@@ -204,11 +197,11 @@ impl Walk {
             run_end: self.run_end,
             break_state: BreakState::after_single(first),
         };
-        Some((walk, char_width(first)))
+        Some((walk, width))
     }
 
     /// The walk after clusters that come next, and their columns, at most `most`. Most of them are one
-    /// character: printable ASCII, an ordinary one or a Hangul syllable. There may be none.
+    /// character, which is single. There may be none.
     #[inline(always)]
     pub(crate) fn past_singles(self, text: &str, most: usize, view: View) -> (Walk, usize)
         requires { IsWalkIn view text.now self }
@@ -220,9 +213,7 @@ impl Walk {
             [0x20..=0x7E] | [0x20..=0x7E, 0..=0x7F, ..] => {
                 self.past_ascii_clusters(text, most, view)
             }
-            [0x20..=0x7E, next @ ..] if !may_begin_single(next) => (self, 0),
-            _ if has_second(run) && may_begin_single(run) => self.past_letters(text, most),
-            _ => (self, 0),
+            _ => self.past_letters(text, most),
         }
     }
 
@@ -237,8 +228,7 @@ impl Walk {
         if 0 < len && len == self.run_end - self.offset {
             return self.past_run_clusters(text, most, view);
         }
-        let len = self.before_ascii(text, len);
-        (self.past_printable(text, len), len)
+        self.past_front(text, len)
     }
 
     /// The same for a run that is printable ASCII. If what joins its last byte follows after
@@ -264,10 +254,8 @@ impl Walk {
         (walk, len)
     }
 
-    /// The walk after the ordinary characters and Hangul syllables that come next in the run, and
-    /// their columns, at most `most`. Each of them is a cluster by itself.
-    ///
-    /// ASCII is passed only if it comes first. A character before one of another kind isn't passed.
+    /// The walk after the single characters that come next in the run, and their columns, at most
+    /// `most`. Each of them is a cluster by itself. One before another character isn't passed.
     #[inline(always)]
     fn past_letters(self, text: &str, most: usize) -> (Walk, usize)
         requires { IsAnyWalk text.now self }
@@ -281,15 +269,14 @@ impl Walk {
         let Some(mut c) = chars.next() else {
             return (self, 0);
         };
-        if !is_single(c) {
+        let Some(mut width) = single_columns(c) else {
             return (self, 0);
-        }
+        };
         'characters: while let Some(next) = chars.next() {
-            if !is_single(next) {
+            let Some(next_width) = single_columns(next) else {
                 break;
-            }
-            let width = char_width(c);
-            if width == 0 || most - columns < width {
+            };
+            if most - columns < width {
                 break;
             }
             let len = c.len_utf8();
@@ -300,10 +287,23 @@ impl Walk {
                 break_state: BreakState::after_single(c),
             };
             columns += width;
-            if next.is_ascii() {
-                break;
-            }
             c = next;
+            width = next_width;
+            if next.is_ascii() {
+                let front = walk.printable_front(text, most - columns);
+                let (later, more) = walk.past_front(text, front);
+                walk = later;
+                columns += more;
+                chars = text[walk.offset..walk.run_end].chars();
+                let Some(last) = chars.next() else {
+                    break;
+                };
+                let Some(last_width) = single_columns(last) else {
+                    break;
+                };
+                c = last;
+                width = last_width;
+            }
         }
         (walk, columns)
     }
@@ -351,8 +351,22 @@ impl Walk {
         if 0 < len && len == self.run_end - self.offset {
             return self.past_run(text);
         }
+        let (walk, len) = self.past_front(text, len);
+        (walk, len, Run::NONE)
+    }
+
+    /// The walk after the next `len` bytes, which are printable ASCII, and how many bytes were passed:
+    /// all, or all but the last if no ASCII that is seen follows.
+    #[inline(always)]
+    fn past_front(self, text: &str, len: usize) -> (Walk, usize)
+        requires walk { IsAnyWalk text.now self }
+        requires front { IsPrintableFront text.now self len }
+        ensures past { IsPastAscii text.now self result.1 result.0 }
+        ensures most { result.1 ≤ len }
+        ensures none { result.1 ≡ 0 → result.0 ≡ self }
+    {
         let len = self.before_ascii(text, len);
-        (self.past_printable(text, len), len, Run::NONE)
+        (self.past_printable(text, len), len)
     }
 
     /// The same for a run that is printable ASCII.
@@ -556,56 +570,6 @@ impl Walk {
             run_end,
             break_state,
         }
-    }
-}
-
-/// The first bytes from 0xC0 on that begin only characters of which `is_single` is true, a bit each: C3
-/// to CB, CD to DB, E4 to E9, EB to ED.
-const SINGLE: u64 = 0x0000_3BF0_0FFF_EFF8;
-
-/// Those that begin others too: E1, E2, E3, EA, EF.
-const PARTLY_SINGLE: u64 = 0x0000_840E_0000_0000;
-
-/// Whether a character of which `is_single` is true may begin with the first bytes of these, perhaps
-/// among others. It saves decoding most other characters.
-#[inline(always)]
-fn may_begin_single(bytes: &[u8]) -> bool {
-    match bytes {
-        [0x20..=0x7E, ..] => true,
-        [first @ 0xC0.., second, ..] => {
-            let first = *first;
-            is_bit(SINGLE, first) || (is_bit(PARTLY_SINGLE, first) && is_second(first, *second))
-        }
-        _ => false,
-    }
-}
-
-/// Whether the bit of a byte from 0xC0 on is set.
-#[inline(always)]
-fn is_bit(set: u64, byte: u8) -> bool
-    requires { 0xC0 ≤ byte }
-{
-    set >> (byte - 0xC0) & 1 == 1
-}
-
-/// Whether a second byte may follow one of `PARTLY_SINGLE` in such a character.
-#[inline(always)]
-fn is_second(first: u8, second: u8) -> bool {
-    match first {
-        0xE1 => matches!(second, 0x82..=0x83 | 0x88..=0x9B | 0xB8..=0xBF),
-        0xE2 => matches!(second, 0x80 | 0x82..=0x83 | 0x88..=0x8B | 0x94..=0x96 | 0xA0..=0xA3),
-        0xE3 => matches!(second, 0x80..=0x83 | 0x90..=0xBF),
-        0xEA => matches!(second, 0xB0..=0xBF),
-        _ => matches!(second, 0xBC..=0xBE),
-    }
-}
-
-/// Whether more bytes follow a first character of which `is_single` is true, which has at most three.
-#[inline(always)]
-fn has_second(bytes: &[u8]) -> bool {
-    match bytes {
-        [0x20..=0x7E, _, ..] | [0xC0..=0xDF, _, _, ..] | [_, _, _, _, ..] => true,
-        _ => false,
     }
 }
 

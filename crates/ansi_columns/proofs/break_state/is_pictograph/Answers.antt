@@ -1,5 +1,5 @@
 use Rattle.std.proofs.Common.{sym, ◌∙◌}
-use Rattle.ansi_columns.proofs.UnnamedLemmas.{pictograph-other}
+use Rattle.ansi_columns.proofs.SingleLemmas.{pictograph-other}
 use Rattle.ansi_columns.proofs.break_state.is_pictograph.Goals as goal
 
 pub returns-else-is_other : goal.returns-else-is_other

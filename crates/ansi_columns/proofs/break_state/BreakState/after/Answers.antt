@@ -3,7 +3,7 @@ use Rattle.ucd_emoji.specs.Binary.{is_extended_pictographic}
 use Rattle.ansi_columns.specs.BreakStates.{break_state_of}
 use Rattle.unicode_segmentation.specs.Grapheme.{is_extend, is_zwj, is_regional}
 use Rattle.ansi_columns.proofs.BreakLemmas.{or-then, or-else, and-then, and-else, break_state-push}
-use Rattle.ansi_columns.proofs.UnnamedLemmas.{break_state-line_feed}
+use Rattle.ansi_columns.proofs.SingleLemmas.{break_state-line_feed}
 use Rattle.ansi_columns.proofs.break_state.BreakState.after.Goals.{then-is_pictograph, else-is_pictograph+then-is_extend, else-is_pictograph+else-is_extend, then-is_zwj, else-is_zwj}
 use Rattle.ansi_columns.proofs.break_state.BreakState.after.Goals as goal
 

@@ -1,7 +1,7 @@
 use Rattle.std.proofs.Common.{◌≡◌, ◌+◌, ◌++◌, ◌^◌, ◌<◌, length, encode_utf8, slice_range, refl, sym, ◌∙◌, ap, arith, rules}
 use Rattle.ansi_items.proofs.PlainLemmas.{length-plain}
 use Rattle.ansi_columns.specs.Walks.{IsNext}
-use Rattle.ansi_columns.proofs.OrdinaryLemmas.{past-single}
+use Rattle.ansi_columns.proofs.SingleWalkLemmas.{past-single}
 use Rattle.ansi_columns.proofs.WalkLemmas.{position_within}
 use Rattle.ansi_columns.proofs.walks.Walk.next_single.Goals as goal
 
@@ -21,7 +21,5 @@ returns c view walk =
     let second = c.in_ok-second.second in
     let more = c.next-2.new.self.rest.now in
     let bytes : slice_range t w.offset w.run_end ≡ encode_utf8 first ++ (encode_utf8 second ++ more) = sym (c.chars-chars.ensures.rest ∙ c.range.ensures.value) ∙ c.in_ok-first.ensures.steps.0 ∙ ap (λ u. encode_utf8 first ++ u) c.in_ok-second.ensures.steps.0 in
-    let one = c.if-not-is_single.ensures in
-    let two = c.if-not-is_single-2.ensures in
-    past-single view t c.utf8.text w walk first second more bytes _ c.char_width.result (one.single refl) (one.printing refl) (two.single refl) (two.printing refl)
-    (ap (λ n. w.position + n) c.len_utf8-len.ensures.len) (ap (λ n. w.offset + n) c.len_utf8-len.ensures.len) refl c.after_single.ensures c.char_width.ensures.value c.char_width.ensures.bound
+    past-single view t c.utf8.text w walk first second more bytes _ c.in_ok-width.width _ c.in_ok-width.ensures c.in_ok-single_columns.ensures
+    (ap (λ n. w.position + n) c.len_utf8-len.ensures.len) (ap (λ n. w.offset + n) c.len_utf8-len.ensures.len) refl c.after_single.ensures

@@ -1,7 +1,8 @@
-use Rattle.std.proofs.Common.{◌+◌, ◌++◌, ◌^◌, ◌<◌, length, encode_utf8, slice_range, refl, ◌∙◌, ap, arith, rules}
+use Rattle.std.proofs.Common.{◌+◌, ◌-◌, ◌++◌, ◌^◌, ◌<◌, ◌≤◌, length, encode_utf8, slice_range, refl, sym, ◌∙◌, ap, arith, rules}
 use Rattle.ansi_items.proofs.PlainLemmas.{length-plain}
 use Rattle.ansi_columns.specs.Walks.{IsNext}
-use Rattle.ansi_columns.proofs.OrdinaryLemmas.{clusters-ordinary}
+use Rattle.ansi_columns.proofs.PrintableLemmas.{clusters-past}
+use Rattle.ansi_columns.proofs.SingleWalkLemmas.{clusters-append, clusters-single}
 use Rattle.ansi_columns.proofs.WalkLemmas.{position_within, rest_at}
 use Rattle.ansi_columns.proofs.walks.Walk.past_letters.Goals as goal
 
@@ -14,17 +15,25 @@ overflow_add-walk c =
     let size : length t < 2 ^ 63 = search rules in
     omega (arith, size, position_within t c.utf8.text w (inv.past c.requires.0 c.requires.1).walk c.characters.c next, length-plain t, c.len_utf8-len.ensures.len)
 
--- after a character that an ordinary one follows
+-- after a character that a single one follows
 
-pub returns-then-is_ascii-clause-past : goal.returns-then-is_ascii-clause-past
-returns-then-is_ascii-clause-past c view walk =
-    let w = c.characters.walk in
+pub printable_front-front-requires : goal.printable_front-front-requires
+printable_front-front-requires c =
     let inv = c.characters.invariant in
-    let len = c.len_utf8-len.ensures.len in
-    let width = c.char_width-width.ensures in
-    let next = c.if-not-is_single-2.ensures in
-    clusters-ordinary c.next-in-characters.new.self.rest.now c.utf8.text (inv.past view walk) (inv.rest ∙ ap (λ u. encode_utf8 c.characters.c ++ u) c.in-Some-next.ensures.steps.0) inv.single inv.printing (next.single refl) (next.printing refl)
-    (ap (λ n. w.position + n) len) (ap (λ n. w.offset + n) len) refl c.after_single.ensures width.value width.bound (omega arith)
+    let passed = clusters-single c.len_utf8-len.result c.after_single.result c.next-in-characters.new.self.rest.now c.utf8.text (inv.past c.requires.0 c.requires.1) (inv.rest ∙ ap (λ u. encode_utf8 c.characters.c ++ u) c.in-Some-next.ensures.steps.0) inv.shown c.in-Some-single_columns-2.ensures c.len_utf8-len.ensures.len c.after_single.ensures in
+    (c.requires.0, passed.walk)
+
+pub past_front-more-requires-clause-walk : goal.past_front-more-requires-clause-walk
+past_front-more-requires-clause-walk c =
+    let inv = c.characters.invariant in
+    let passed = clusters-single c.len_utf8-len.result c.after_single.result c.next-in-characters.new.self.rest.now c.utf8.text (inv.past c.requires.0 c.requires.1) (inv.rest ∙ ap (λ u. encode_utf8 c.characters.c ++ u) c.in-Some-next.ensures.steps.0) inv.shown c.in-Some-single_columns-2.ensures c.len_utf8-len.ensures.len c.after_single.ensures in
+    (c.requires.0, passed.walk)
+
+pub characters-smaller : goal.characters-smaller
+characters-smaller c =
+    let inv = c.characters.invariant in
+    let passed = clusters-single c.len_utf8-len.result c.after_single.result c.next-in-characters.new.self.rest.now c.utf8.text (inv.past c.requires.0 c.requires.1) (inv.rest ∙ ap (λ u. encode_utf8 c.characters.c ++ u) c.in-Some-next.ensures.steps.0) inv.shown c.in-Some-single_columns-2.ensures c.len_utf8-len.ensures.len c.after_single.ensures in
+    omega (arith, passed.walk.within, c.len_utf8-len.ensures.lower_bound)
 
 pub characters-preserved : goal.characters-preserved
 characters-preserved c =
@@ -32,15 +41,63 @@ characters-preserved c =
     let w = c.characters.walk in
     let inv = c.characters.invariant in
     let first : IsNext t w c.characters.c = record { rest = c.characters.chars.rest.now; bytes = inv.rest } in
-    let len = c.len_utf8-len.ensures.len in
-    let width = c.char_width-width.ensures in
-    let next = c.if-not-is_single-2.ensures in
+    record {
+      past = λ view walk. clusters-single c.len_utf8-len.result c.after_single.result c.next-in-characters.new.self.rest.now c.utf8.text (inv.past view walk) (inv.rest ∙ ap (λ u. encode_utf8 c.characters.c ++ u) c.in-Some-next.ensures.steps.0) inv.shown c.in-Some-single_columns-2.ensures c.len_utf8-len.ensures.len c.after_single.ensures;
+      most = omega arith;
+      rest = ap (λ n. slice_range t (w.offset + n) w.run_end) c.len_utf8-len.ensures.len ∙ rest_at t c.utf8.text w (inv.past c.requires.0 c.requires.1).walk c.characters.c first ∙ c.in-Some-next.ensures.steps.0;
+      shown = c.in-Some-single_columns-2.ensures;
+    }
+
+-- after the printable ASCII that it begins
+
+pub range-requires-then-is_ascii-clause-start_le_end : goal.range-requires-then-is_ascii-clause-start_le_end
+range-requires-then-is_ascii-clause-start_le_end c =
+    let inv = c.characters.invariant in
+    let passed = clusters-single c.len_utf8-len.result c.after_single.result c.next-in-characters.new.self.rest.now c.utf8.text (inv.past c.requires.0 c.requires.1) (inv.rest ∙ ap (λ u. encode_utf8 c.characters.c ++ u) c.in-Some-next.ensures.steps.0) inv.shown c.in-Some-single_columns-2.ensures c.len_utf8-len.ensures.len c.after_single.ensures in
+    let later = c.past_front-more.ensures.past.walk c.requires.0 passed.walk in
+    later.run.ordered
+
+pub range-requires-then-is_ascii-clause-start_boundary : goal.range-requires-then-is_ascii-clause-start_boundary
+range-requires-then-is_ascii-clause-start_boundary c =
+    let inv = c.characters.invariant in
+    let passed = clusters-single c.len_utf8-len.result c.after_single.result c.next-in-characters.new.self.rest.now c.utf8.text (inv.past c.requires.0 c.requires.1) (inv.rest ∙ ap (λ u. encode_utf8 c.characters.c ++ u) c.in-Some-next.ensures.steps.0) inv.shown c.in-Some-single_columns-2.ensures c.len_utf8-len.ensures.len c.after_single.ensures in
+    let later = c.past_front-more.ensures.past.walk c.requires.0 passed.walk in
+    λ _. later.run.start_boundary
+
+pub range-requires-then-is_ascii-clause-end_boundary : goal.range-requires-then-is_ascii-clause-end_boundary
+range-requires-then-is_ascii-clause-end_boundary c =
+    let inv = c.characters.invariant in
+    let passed = clusters-single c.len_utf8-len.result c.after_single.result c.next-in-characters.new.self.rest.now c.utf8.text (inv.past c.requires.0 c.requires.1) (inv.rest ∙ ap (λ u. encode_utf8 c.characters.c ++ u) c.in-Some-next.ensures.steps.0) inv.shown c.in-Some-single_columns-2.ensures c.len_utf8-len.ensures.len c.after_single.ensures in
+    let later = c.past_front-more.ensures.past.walk c.requires.0 passed.walk in
+    later.run.end_boundary
+
+pub characters-smaller-then-is_ascii : goal.characters-smaller-then-is_ascii
+characters-smaller-then-is_ascii c =
+    let inv = c.characters.invariant in
+    let passed = clusters-single c.len_utf8-len.result c.after_single.result c.next-in-characters.new.self.rest.now c.utf8.text (inv.past c.requires.0 c.requires.1) (inv.rest ∙ ap (λ u. encode_utf8 c.characters.c ++ u) c.in-Some-next.ensures.steps.0) inv.shown c.in-Some-single_columns-2.ensures c.len_utf8-len.ensures.len c.after_single.ensures in
+    let later = c.past_front-more.ensures.past.walk c.requires.0 passed.walk in
+    omega (arith, later.within, c.past_front-more.ensures.past.position, c.len_utf8-len.ensures.lower_bound)
+
+pub characters-preserved-then-is_ascii : goal.characters-preserved-then-is_ascii
+characters-preserved-then-is_ascii c =
+    let inv = c.characters.invariant in
     record {
       past = λ view walk.
-          clusters-ordinary c.next-in-characters.new.self.rest.now c.utf8.text (inv.past view walk) (inv.rest ∙ ap (λ u. encode_utf8 c.characters.c ++ u) c.in-Some-next.ensures.steps.0) inv.single inv.printing (next.single refl) (next.printing refl)
-          (ap (λ n. w.position + n) len) (ap (λ n. w.offset + n) len) refl c.after_single.ensures width.value width.bound (omega arith);
-      most = omega arith;
-      rest = ap (λ n. slice_range t (w.offset + n) w.run_end) len ∙ rest_at t c.utf8.text w (inv.past c.requires.0 c.requires.1).walk c.characters.c first ∙ c.in-Some-next.ensures.steps.0;
-      single = next.single refl;
-      printing = next.printing refl;
+          let passed = clusters-single c.len_utf8-len.result c.after_single.result c.next-in-characters.new.self.rest.now c.utf8.text (inv.past view walk) (inv.rest ∙ ap (λ u. encode_utf8 c.characters.c ++ u) c.in-Some-next.ensures.steps.0) inv.shown c.in-Some-single_columns-2.ensures c.len_utf8-len.ensures.len c.after_single.ensures in
+          clusters-append passed (clusters-past passed.walk c.past_front-more.ensures.past);
+      most = omega (arith, c.past_front-more.ensures.most, c.printable_front-front.ensures.most, c.if-most-columns.false);
+      rest = sym (c.chars-chars-then-is_ascii.ensures.rest ∙ c.range-then-is_ascii.ensures.value) ∙ c.in-Some-next-2.ensures.steps.0;
+      shown = c.in-Some-single_columns-3.ensures;
     }
+
+pub returns-in_default-next-2-clause-past : goal.returns-in_default-next-2-clause-past
+returns-in_default-next-2-clause-past c view walk =
+    let inv = c.characters.invariant in
+    let passed = clusters-single c.len_utf8-len.result c.after_single.result c.next-in-characters.new.self.rest.now c.utf8.text (inv.past view walk) (inv.rest ∙ ap (λ u. encode_utf8 c.characters.c ++ u) c.in-Some-next.ensures.steps.0) inv.shown c.in-Some-single_columns-2.ensures c.len_utf8-len.ensures.len c.after_single.ensures in
+    clusters-append passed (clusters-past passed.walk c.past_front-more.ensures.past)
+
+pub returns-in_default-single_columns-3-clause-past : goal.returns-in_default-single_columns-3-clause-past
+returns-in_default-single_columns-3-clause-past c view walk =
+    let inv = c.characters.invariant in
+    let passed = clusters-single c.len_utf8-len.result c.after_single.result c.next-in-characters.new.self.rest.now c.utf8.text (inv.past view walk) (inv.rest ∙ ap (λ u. encode_utf8 c.characters.c ++ u) c.in-Some-next.ensures.steps.0) inv.shown c.in-Some-single_columns-2.ensures c.len_utf8-len.ensures.len c.after_single.ensures in
+    clusters-append passed (clusters-past passed.walk c.past_front-more.ensures.past)

@@ -1,19 +1,18 @@
-use Rattle.std.proofs.Common.{◌≡◌, ◌≤◌, ◌++◌, true, length, slice_range, encode_utf8}
-use Rattle.ansi_safe.specs.Safe.{is_printing}
+use Rattle.std.proofs.Common.{◌≡◌, ◌≤◌, ◌-◌, ◌++◌, length, slice_range, encode_utf8}
+use Rattle.ansi_items.specs.Plain.{plain}
 use Rattle.ansi_columns.specs.declared.views.View.{View}
-use Rattle.ansi_columns.specs.BreakStates.{IsSingle}
+use Rattle.ansi_columns.specs.BreakStates.{IsShownSingle}
 use Rattle.ansi_columns.specs.Walks.{IsWalkIn, IsPastClusters}
 use Rattle.ansi_columns.proofs.walks.Walk.past_letters.Given as goal
 
--- each character before the walk is a cluster by itself, and c, which is ordinary, is next
+-- each character before the walk is a cluster by itself, and c, which is single, is next
 abbrev pub invariant-characters : goal.invariant-characters
 invariant-characters l = record {
   past : (view : View) → IsWalkIn view l.text l.fn.self → IsPastClusters view l.text l.fn.self l.walk l.columns;
   most : l.columns ≤ l.most;
   rest : slice_range l.text l.walk.offset l.walk.run_end ≡ encode_utf8 l.c ++ l.chars.rest.now;
-  single : IsSingle l.c;
-  printing : is_printing l.c ≡ true;
+  shown : IsShownSingle l.c l.width;
 }
 
 abbrev pub decreases-characters : goal.decreases-characters
-decreases-characters l = length l.chars.rest.now
+decreases-characters l = length (plain l.text) - l.walk.position
