@@ -23,7 +23,8 @@ use Rattle.ucd_emoji.proofs.Computing.{ucd_emoji}
 use Rattle.unicode_segmentation.specs.Grapheme.{is_grapheme_break, break_by_pair, ends_in_linker, ends_in_pictograph, ends_in_half_flag}
 use Rattle.unicode_width.proofs.Rules.{str_width-printable}
 use Rattle.ansi_columns.specs.Columns.{cluster_width, columns_of, columns}
-use Rattle.ansi_columns.specs.BreakStates.{break_state_of, IsSingle}
+use Rattle.ansi_safe.specs.Safe.{is_printing}
+use Rattle.ansi_columns.specs.BreakStates.{break_state_of, IsSingle, IsShownSingle}
 use Rattle.ansi_columns.specs.Walks.{clusters_after}
 use Rattle.ansi_columns.specs.declared.break_state.BreakState.{BreakState}
 use Rattle.ansi_columns.proofs.ClusterLemmas.{cluster-begins, cluster-ends, cluster-last, clusters-none}
@@ -37,7 +38,7 @@ is_printable = is_in_range 0x20 0x7E
 pub printable-below_7F : (c : ℕ) → is_printable c ≡ true → c < 0x7F
 printable-below_7F c printable = grind (arith, nat_tests)
 
-grapheme_cluster_break-printable : (c : ℕ) → is_printable c ≡ true → Other ≡ grapheme_cluster_break c
+pub grapheme_cluster_break-printable : (c : ℕ) → is_printable c ≡ true → Other ≡ grapheme_cluster_break c
 unfolding ucd_breaks
 grapheme_cluster_break-printable c printable =
     let test = Stepped-below grapheme_cluster_break grapheme_cluster_break_stepped (λ x v. not (is_printable x) || (grapheme_cluster_break_number Other == grapheme_cluster_break_number v)) 0x7F refl c (printable-below_7F c printable) in
@@ -73,6 +74,17 @@ break_state-printable c before printable = break_state-single c before Other (Is
 
 pub width-single : (c : ℕ) → is_printable c ≡ true → cluster_width (c ∷ []) ≡ 1
 width-single c printable = str_width-printable false (c ∷ []) (rw printable refl)
+
+pub printable-prints : (c : ℕ) → is_printable c ≡ true → is_printing c ≡ true
+printable-prints c printable = grind (arith, nat_tests)
+
+pub IsShownSingle-printable : (c : ℕ) → is_printable c ≡ true → IsShownSingle c 1
+IsShownSingle-printable c printable = record {
+  single = IsSingle-printable c printable;
+  printing = printable-prints c printable;
+  some = omega arith;
+  columns_are = sym (width-single c printable);
+}
 
 pub breaks-between : (before : List ℕ) (c d : ℕ) (cs : List ℕ) → is_printable c ≡ true → is_printable d ≡ true → is_grapheme_break true (c ∷ before) (d ∷ cs) ≡ true
 breaks-between before c d cs first second = breaks-single before c d cs (IsSingle-printable c first) (IsSingle-printable d second)

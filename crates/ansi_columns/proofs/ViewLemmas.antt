@@ -19,6 +19,7 @@ use Rattle.ansi_columns.specs.declared.views.View.{View}
 use Rattle.ansi_columns.specs.declared.views.View.TheVariants.{Given, Shown}
 use Rattle.ansi_columns.specs.Views.{seen_char, seen, seen_text, seen_len}
 use Rattle.ansi_columns.specs.Walks.{cluster, seen_before, seen_after, seen_cluster, is_seen_ascii}
+use Rattle.ansi_columns.proofs.AsciiLemmas.{printable-prints}
 
 pub seen-nil : (view : View) → seen view [] ≡ []
 seen-nil Given = refl
@@ -84,9 +85,6 @@ seen-printing Given c printing = refl
 seen-printing Shown c printing = ap (λ p. if p then c ∷ [] else if c == 9 || c == 10 then 32 ∷ [] else []) printing
 
 -- ---- ASCII
-
-printable-prints : (c : ℕ) → is_printable_byte c ≡ true → is_printing c ≡ true
-printable-prints c printable = grind (arith, nat_tests)
 
 -- printable ASCII is seen as it is
 pub seen-printable : (view : View) (c : ℕ) → is_printable_byte c ≡ true → seen_char view c ≡ c ∷ []

@@ -93,7 +93,10 @@ impl BreakState {
         ensures { (before after : List ℕ) → before ≢ [] → self ≡ break_state_of before →
             result ≡ is_grapheme_break true before (next ∷ after) }
     {
-        let value = break_value(next);
+        let value = match next {
+            ' '..='~' => Other,
+            _ => GraphemeClusterBreak::for_char(next),
+        };
         if let Some(is_break) = break_by_pair(self.last, value) {
             return is_break;
         }
@@ -101,18 +104,6 @@ impl BreakState {
         let joins_emoji = self.is_joined && is_extended_pictographic(next);
         let joins_flag = self.is_half_flag && is_regional(value);
         !(joins_conjunct || joins_emoji || joins_flag)
-    }
-}
-
-/// The value of a character.
-#[inline(always)]
-fn break_value(c: char) -> GraphemeClusterBreak
-    ensures { result ≡ grapheme_cluster_break c }
-{
-    if is_single(c) {
-        single_value(c)
-    } else {
-        GraphemeClusterBreak::for_char(c)
     }
 }
 

@@ -9,9 +9,12 @@ ghost use Rattle.ansi_columns.specs.BreakStates.{IsSingle, IsShownSingle};
 pub(crate) fn single_columns(c: char) -> Option<usize>
     ensures { IfSome result (IsShownSingle c) }
 {
-    match ucd_table::get::<2, 2>(&BLOCKS, &WORDS, &REST, c as u32) {
-        0 => None,
-        columns => Some(columns as usize),
+    match c {
+        ' '..='~' => Some(1),
+        _ => match ucd_table::get::<2, 2>(&BLOCKS, &WORDS, &REST, c as u32) {
+            0 => None,
+            columns => Some(columns as usize),
+        },
     }
 }
 

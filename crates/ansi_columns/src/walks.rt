@@ -213,6 +213,7 @@ impl Walk {
             [0x20..=0x7E] | [0x20..=0x7E, 0..=0x7F, ..] => {
                 self.past_ascii_clusters(text, most, view)
             }
+            [0x20..=0x7E, ..] if !self.has_single_second(text) => (self, 0),
             _ => self.past_letters(text, most),
         }
     }
@@ -289,7 +290,7 @@ impl Walk {
             columns += width;
             c = next;
             width = next_width;
-            if next.is_ascii() {
+            if next.is_ascii() && matches!(chars.as_str().as_bytes(), [0..=0x7F, ..]) {
                 let front = walk.printable_front(text, most - columns);
                 let (later, more) = walk.past_front(text, front);
                 walk = later;
@@ -306,6 +307,18 @@ impl Walk {
             }
         }
         (walk, columns)
+    }
+
+    /// Whether the second of the characters that come next in the run is single.
+    #[inline(always)]
+    fn has_single_second(self, text: &str) -> bool
+        requires { IsAnyWalk text.now self }
+    {
+        let mut chars = text[self.offset..self.run_end].chars();
+        match (chars.next(), chars.next()) {
+            (Some(_), Some(second)) => is_single(second),
+            _ => false,
+        }
     }
 
     /// The walk before the next character that is seen, and as what it is seen. At the end of the

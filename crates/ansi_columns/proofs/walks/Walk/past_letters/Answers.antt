@@ -50,43 +50,43 @@ characters-preserved c =
 
 -- after the printable ASCII that it begins
 
-pub range-requires-then-is_ascii-clause-start_le_end : goal.range-requires-then-is_ascii-clause-start_le_end
-range-requires-then-is_ascii-clause-start_le_end c =
+pub range-requires-then-matches-clause-start_le_end : goal.range-requires-then-matches-clause-start_le_end
+range-requires-then-matches-clause-start_le_end c =
     let inv = c.characters.invariant in
     let passed = clusters-single c.len_utf8-len.result c.after_single.result c.next-in-characters.new.self.rest.now c.utf8.text (inv.past c.requires.0 c.requires.1) (inv.rest ∙ ap (λ u. encode_utf8 c.characters.c ++ u) c.in-Some-next.ensures.steps.0) inv.shown c.in-Some-single_columns-2.ensures c.len_utf8-len.ensures.len c.after_single.ensures in
     let later = c.past_front-more.ensures.past.walk c.requires.0 passed.walk in
     later.run.ordered
 
-pub range-requires-then-is_ascii-clause-start_boundary : goal.range-requires-then-is_ascii-clause-start_boundary
-range-requires-then-is_ascii-clause-start_boundary c =
+pub range-requires-then-matches-clause-start_boundary : goal.range-requires-then-matches-clause-start_boundary
+range-requires-then-matches-clause-start_boundary c =
     let inv = c.characters.invariant in
     let passed = clusters-single c.len_utf8-len.result c.after_single.result c.next-in-characters.new.self.rest.now c.utf8.text (inv.past c.requires.0 c.requires.1) (inv.rest ∙ ap (λ u. encode_utf8 c.characters.c ++ u) c.in-Some-next.ensures.steps.0) inv.shown c.in-Some-single_columns-2.ensures c.len_utf8-len.ensures.len c.after_single.ensures in
     let later = c.past_front-more.ensures.past.walk c.requires.0 passed.walk in
     λ _. later.run.start_boundary
 
-pub range-requires-then-is_ascii-clause-end_boundary : goal.range-requires-then-is_ascii-clause-end_boundary
-range-requires-then-is_ascii-clause-end_boundary c =
+pub range-requires-then-matches-clause-end_boundary : goal.range-requires-then-matches-clause-end_boundary
+range-requires-then-matches-clause-end_boundary c =
     let inv = c.characters.invariant in
     let passed = clusters-single c.len_utf8-len.result c.after_single.result c.next-in-characters.new.self.rest.now c.utf8.text (inv.past c.requires.0 c.requires.1) (inv.rest ∙ ap (λ u. encode_utf8 c.characters.c ++ u) c.in-Some-next.ensures.steps.0) inv.shown c.in-Some-single_columns-2.ensures c.len_utf8-len.ensures.len c.after_single.ensures in
     let later = c.past_front-more.ensures.past.walk c.requires.0 passed.walk in
     later.run.end_boundary
 
-pub characters-smaller-then-is_ascii : goal.characters-smaller-then-is_ascii
-characters-smaller-then-is_ascii c =
+pub characters-smaller-then-matches : goal.characters-smaller-then-matches
+characters-smaller-then-matches c =
     let inv = c.characters.invariant in
     let passed = clusters-single c.len_utf8-len.result c.after_single.result c.next-in-characters.new.self.rest.now c.utf8.text (inv.past c.requires.0 c.requires.1) (inv.rest ∙ ap (λ u. encode_utf8 c.characters.c ++ u) c.in-Some-next.ensures.steps.0) inv.shown c.in-Some-single_columns-2.ensures c.len_utf8-len.ensures.len c.after_single.ensures in
     let later = c.past_front-more.ensures.past.walk c.requires.0 passed.walk in
     omega (arith, later.within, c.past_front-more.ensures.past.position, c.len_utf8-len.ensures.lower_bound)
 
-pub characters-preserved-then-is_ascii : goal.characters-preserved-then-is_ascii
-characters-preserved-then-is_ascii c =
+pub characters-preserved-then-matches : goal.characters-preserved-then-matches
+characters-preserved-then-matches c =
     let inv = c.characters.invariant in
     record {
       past = λ view walk.
           let passed = clusters-single c.len_utf8-len.result c.after_single.result c.next-in-characters.new.self.rest.now c.utf8.text (inv.past view walk) (inv.rest ∙ ap (λ u. encode_utf8 c.characters.c ++ u) c.in-Some-next.ensures.steps.0) inv.shown c.in-Some-single_columns-2.ensures c.len_utf8-len.ensures.len c.after_single.ensures in
           clusters-append passed (clusters-past passed.walk c.past_front-more.ensures.past);
       most = omega (arith, c.past_front-more.ensures.most, c.printable_front-front.ensures.most, c.if-most-columns.false);
-      rest = sym (c.chars-chars-then-is_ascii.ensures.rest ∙ c.range-then-is_ascii.ensures.value) ∙ c.in-Some-next-2.ensures.steps.0;
+      rest = sym (c.chars-chars-then-matches.ensures.rest ∙ c.range-then-matches.ensures.value) ∙ c.in-Some-next-2.ensures.steps.0;
       shown = c.in-Some-single_columns-3.ensures;
     }
 
