@@ -185,6 +185,9 @@ impl Walk {
         ensures { IfSome result (λ (walk, width). (view : View) → IsWalkIn view text.now self →
             IsPastCluster view text.now self walk width) }
     {
+        if !has_second(&text.as_bytes()[self.offset..self.run_end]) {
+            return None;
+        }
         let mut chars = text[self.offset..self.run_end].chars();
         let first = chars.next()?;
         let width = single_columns(first)?;
@@ -214,7 +217,8 @@ impl Walk {
                 self.past_ascii_clusters(text, most, view)
             }
             [0x20..=0x7E, ..] if !self.has_single_second(text) => (self, 0),
-            _ => self.past_letters(text, most),
+            _ if has_second(run) => self.past_letters(text, most),
+            _ => (self, 0),
         }
     }
 
@@ -583,6 +587,15 @@ impl Walk {
             run_end,
             break_state,
         }
+    }
+}
+
+/// Whether more bytes follow a first character that may be single. It saves decoding it if not.
+#[inline(always)]
+fn has_second(bytes: &[u8]) -> bool {
+    match bytes {
+        [0x20..=0x7E, _, ..] | [0xC0..=0xDF, _, _, ..] | [0xE0..=0xF7, _, _, _, ..] => true,
+        _ => false,
     }
 }
 
