@@ -11,6 +11,7 @@ pub(crate) fn single_columns(c: char) -> Option<usize>
 {
     match c {
         ' '..='~' => Some(1),
+        '\0'..='\u{9F}' => None,
         _ => match ucd_table::get::<2, 2>(&BLOCKS, &WORDS, &REST, c as u32) {
             0 => None,
             columns => Some(columns as usize),

@@ -628,7 +628,10 @@ fn char_width(c: char) -> usize
     ensures value { result ≡ cluster_width (c ∷ []) }
     ensures bound { result ≤ 2 * length (encode_utf8 c) }
 {
-    c.width().unwrap_or(1)
+    match single_columns(c) {
+        Some(width) => width,
+        None => c.width().unwrap_or(1),
+    }
 }
 
 /// How many bytes of a text are searched for its first run before all of it is.
