@@ -1,5 +1,5 @@
 -- Printable ASCII in the tables of the rules on clusters, and its columns.
-use Rattle.std.proofs.Common.{◌≡◌, ℕ, ◌+◌, ◌<◌, Bool, true, false, not, ◌||◌, ◌==◌, List, [], ◌∷◌, length, unwrap_or, IsTrue, eqb-true, inl, refl, sym, ap, ◌∙◌, arith}
+use Rattle.std.proofs.Common.{◌≡◌, ◌≢◌, ℕ, ◌+◌, ◌<◌, Bool, true, false, not, ◌&&◌, ◌||◌, ◌==◌, List, [], ◌∷◌, length, unwrap_or, IsTrue, eqb-true, inl, refl, sym, ap, ◌∙◌, arith}
 use Rattle.std.specs.Int.{is_in_range}
 use Rattle.std.specs.List.{All, list_all}
 use Rattle.std.proofs.lemmas.Bool.{and_parts}
@@ -14,13 +14,14 @@ use Rattle.ucd_breaks.specs.declared.GraphemeClusterBreak.TheVariants.{Other}
 use Rattle.ucd_breaks.proofs.Computing.{ucd_breaks}
 use Rattle.ucd_breaks.proofs.GraphemeClusterBreakLemmas.{grapheme_cluster_break_stepped, grapheme_cluster_break_number_injective}
 use Rattle.ucd_derived.specs.IndicConjunctBreak.{indic_conjunct_break, indic_conjunct_break_number}
+use Rattle.ucd_derived.specs.declared.IndicConjunctBreak.{IndicConjunctBreak}
 use Rattle.ucd_derived.specs.declared.IndicConjunctBreak.TheVariants as InCb
 use Rattle.ucd_derived.proofs.Computing.{ucd_derived}
 use Rattle.ucd_derived.proofs.IndicConjunctBreakLemmas.{indic_conjunct_break_stepped, indic_conjunct_break_number_injective}
 use Rattle.ucd_emoji.specs.Binary.{is_extended_pictographic}
 use Rattle.ucd_emoji.proofs.BinaryLemmas.{is_extended_pictographic_stepped}
 use Rattle.ucd_emoji.proofs.Computing.{ucd_emoji}
-use Rattle.unicode_segmentation.specs.Grapheme.{is_grapheme_break, break_by_pair, ends_in_linker, ends_in_pictograph, ends_in_half_flag}
+use Rattle.unicode_segmentation.specs.Grapheme.{is_grapheme_break, break_by_pair, is_consonant, ends_in_linker, ends_in_pictograph, ends_in_half_flag}
 use Rattle.unicode_width.proofs.Rules.{str_width-printable}
 use Rattle.ansi_columns.specs.Columns.{cluster_width, columns_of, columns}
 use Rattle.ansi_safe.specs.Safe.{is_printing}
@@ -69,6 +70,27 @@ IsSingle-printable c printable = record {
 pub break_state-printable : (c : ℕ) (before : List ℕ) → is_printable c ≡ true → break_state_of [] ≡ break_state_of (c ∷ before)
 unfolding ends_in_linker ends_in_pictograph ends_in_half_flag
 break_state-printable c before printable = break_state-single c before Other (IsSingle-printable c printable) (grapheme_cluster_break-printable c printable)
+
+no_join : (a b d : Bool) → (((a && false) || (b && false)) || (d && false)) ≡ false
+no_join true true true = refl
+no_join true true false = refl
+no_join true false true = refl
+no_join true false false = refl
+no_join false true true = refl
+no_join false true false = refl
+no_join false false true = refl
+no_join false false false = refl
+
+-- before it, the value of the character there decides alone
+pub ends-printable : (s : BreakState) (before : List ℕ) (next : ℕ) (after : List ℕ) → before ≢ [] → s ≡ break_state_of before → is_printable next ≡ true
+    → unwrap_or (break_by_pair true s.last Other) true ≡ is_grapheme_break true before (next ∷ after)
+ends-printable s before next after some is printable =
+    let joins_none : joins s Other next ≡ false =
+    ap (λ (v : IndicConjunctBreak). ((s.is_linked && is_consonant v) || (s.is_joined && is_extended_pictographic next)) || (s.is_half_flag && false)) (sym (indic_conjunct_break-printable next printable))
+    ∙ ap (λ b. ((s.is_linked && false) || (s.is_joined && b)) || (s.is_half_flag && false)) (sym (is_extended_pictographic-printable next printable))
+    ∙ no_join s.is_linked s.is_joined s.is_half_flag in
+    ap (λ b. unwrap_or (break_by_pair true s.last Other) (not b)) (sym joins_none)
+    ∙ is_grapheme_break-decided s before next after some is Other (grapheme_cluster_break-printable next printable) (break_by_pair true s.last Other) refl
 
 -- ---- a text of printable ASCII
 

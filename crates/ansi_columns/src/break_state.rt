@@ -93,10 +93,10 @@ impl BreakState {
         ensures { (before after : List ℕ) → before ≢ [] → self ≡ break_state_of before →
             result ≡ is_grapheme_break true before (next ∷ after) }
     {
-        let value = match next {
-            ' '..='~' => Other,
-            _ => GraphemeClusterBreak::for_char(next),
-        };
+        if matches!(next, ' '..='~') {
+            return break_by_pair(self.last, Other).unwrap_or(true);
+        }
+        let value = GraphemeClusterBreak::for_char(next);
         if let Some(is_break) = break_by_pair(self.last, value) {
             return is_break;
         }

@@ -1,32 +1,26 @@
-use Rattle.std.proofs.Common.{◌≡◌, Some, None, not, ◌&&◌, ◌||◌, sym, ◌∙◌, ap, rules, tests}
-use Rattle.ucd_breaks.specs.GraphemeClusterBreak.{grapheme_cluster_break}
+use Rattle.std.proofs.Common.{◌≡◌, true, Some, None, unwrap_or, not, ◌&&◌, ◌||◌, sym, ◌∙◌, ap, rules, tests}
 use Rattle.ucd_derived.specs.IndicConjunctBreak.{indic_conjunct_break}
 use Rattle.ucd_emoji.specs.Binary.{is_extended_pictographic}
 use Rattle.unicode_segmentation.specs.Grapheme.{is_consonant, is_regional}
-use Rattle.ansi_columns.proofs.AsciiLemmas.{grapheme_cluster_break-printable}
 use Rattle.ansi_columns.proofs.BreakLemmas.{or-then, or-else, and-then, and-else, is_grapheme_break-decided}
-use Rattle.ansi_columns.proofs.break_state.BreakState.ends_before.Goals.{in-32-to-126, in_default, then-self, else-self, then-self-2, else-self-2, then-self-3, else-self-3, then-joins_conjunct, else-joins_conjunct, then-joins_emoji, else-joins_emoji}
+use Rattle.ansi_columns.proofs.AsciiLemmas.{ends-printable}
+use Rattle.ansi_columns.proofs.break_state.BreakState.ends_before.Goals.{then-self, else-self, then-self-2, else-self-2, then-self-3, else-self-3, then-joins_conjunct, else-joins_conjunct, then-joins_emoji, else-joins_emoji}
 use Rattle.ansi_columns.proofs.break_state.BreakState.ends_before.Goals as goal
+
+pub returns-then-matches : goal.returns-then-matches
+returns-then-matches c before after some is =
+    c.unwrap_or.ensures ∙ ap (λ o. unwrap_or o true) c.break_by_pair.ensures
+    ∙ ends-printable c.args.self before c.args.next after some is (search (rules, tests))
 
 pub returns-in-Some : goal.returns-in-Some
 returns-in-Some c before after some is =
-    let next = c.args.next in
-    let v = c.if-next-lt32.value in
-    let value : v ≡ grapheme_cluster_break next = elim c.if-next-lt32.branch [
-      | in-32-to-126 w ↦ w.value-is ∙ grapheme_cluster_break-printable next (search (rules, tests))
-      | in_default w ↦ w.value-is ∙ w.for_char-value.ensures
-    ] in
-    is_grapheme_break-decided c.args.self before next after some is v value (Some c.in-Some.is_break) (sym c.break_by_pair.ensures ∙ c.in-Some.is)
+    is_grapheme_break-decided c.args.self before c.args.next after some is c.for_char-value.result c.for_char-value.ensures (Some c.in-Some.is_break) (sym c.break_by_pair-2.ensures ∙ c.in-Some.is)
 
 pub returns : goal.returns
 returns c before after some is =
     let s = c.args.self in
     let next = c.args.next in
-    let v = c.if-next-lt32.value in
-    let value : v ≡ grapheme_cluster_break next = elim c.if-next-lt32.branch [
-      | in-32-to-126 w ↦ w.value-is ∙ grapheme_cluster_break-printable next (search (rules, tests))
-      | in_default w ↦ w.value-is ∙ w.for_char-value.ensures
-    ] in
+    let v = c.for_char-value.result in
     let conjunct = s.is_linked && is_consonant (indic_conjunct_break next) in
     let emoji = s.is_joined && is_extended_pictographic next in
     let flag = s.is_half_flag && is_regional v in
@@ -50,4 +44,4 @@ returns c before after some is =
       | then-joins_emoji w ↦ or-then _ (conjunct || emoji) flag (cc) (sym one ∙ w.if-joins_emoji.true)
       | else-joins_emoji w ↦ or-else _ (conjunct || emoji) flag (w.result-is ∙ third) (sym one ∙ w.if-joins_emoji.false)
     ] in
-    ap not all ∙ is_grapheme_break-decided s before next after some is v value None (sym c.break_by_pair.ensures ∙ c.in_default-break_by_pair.is)
+    ap not all ∙ is_grapheme_break-decided s before next after some is v c.for_char-value.ensures None (sym c.break_by_pair-2.ensures ∙ c.in_default-break_by_pair.is)
