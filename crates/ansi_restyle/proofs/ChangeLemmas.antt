@@ -61,7 +61,7 @@ pieces_changed codes s [] = []
 pieces_changed codes s (Text v ∷ ps) = run_pieces codes s v ++ pieces_changed codes s ps
 pieces_changed codes s (p ∷ ps) = p ∷ pieces_changed codes (apply s (spelling p)) ps
 
-written_all-append : (xs ys : List (List ℕ)) → written_all (xs ++ ys) ≡ written_all xs ++ written_all ys
+pub written_all-append : (xs ys : List (List ℕ)) → written_all (xs ++ ys) ≡ written_all xs ++ written_all ys
 written_all-append xs ys = flat_map-append written xs ys
 
 regroup : (a b c d : List ℕ) → a ++ (b ++ (c ++ d)) ≡ ((a ++ b) ++ c) ++ d

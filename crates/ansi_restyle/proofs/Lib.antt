@@ -12,3 +12,5 @@ pub mod EmptyLemmas
 pub mod LengthLemmas
 mod LengthExamples
 pub mod RemovedLemmas
+pub mod PlaceLemmas
+pub mod ReplacedLemmas

@@ -33,12 +33,12 @@ use Rattle.ansi_restyle.proofs.TurnLemmas.{IsLeft, goes_on-left}
 use Rattle.ansi_restyle.proofs.LengthLemmas.{length-both}
 use Rattle.ansi_restyle.proofs.StayLemmas.{filter_stand}
 
-abbrev mark_pieces : List Piece → List Piece
+abbrev pub mark_pieces : List Piece → List Piece
 mark_pieces ps = filter (λ p. not (is_text p)) ps
 
 -- What is written: all sequences are those up to the end, or past it.
 
-up_to-all : (ps : List Piece) (top : ℕ) → length (plain_of ps) ≤ top → sequences_up_to top ps ≡ spelled (mark_pieces ps)
+pub up_to-all : (ps : List Piece) (top : ℕ) → length (plain_of ps) ≤ top → sequences_up_to top ps ≡ spelled (mark_pieces ps)
 up_to-all [] top past = refl
 up_to-all (Text w ∷ ps) top past =
     let size = length-append w (plain_of ps) in
@@ -96,7 +96,7 @@ removed-empty t a b same =
 
 -- It is no longer than the text.
 
-length-mark_pieces : (ps : List Piece) → length (spelled (mark_pieces ps)) ≤ length (spelled ps)
+pub length-mark_pieces : (ps : List Piece) → length (spelled (mark_pieces ps)) ≤ length (spelled ps)
 length-mark_pieces [] = omega arith
 length-mark_pieces (Text w ∷ ps) = omega (arith, length-append w (spelled ps), length-mark_pieces ps)
 length-mark_pieces (p ∷ ps) = omega (arith, length-append (spelling p) (spelled (mark_pieces ps)), length-append (spelling p) (spelled ps), length-mark_pieces ps)
@@ -129,16 +129,16 @@ style_through-marks s (Text w ∷ ps) = style_through-marks s ps
 style_through-marks s (p ∷ ps) = style_through-marks (apply s (spelling p)) ps
 
 module _ (t : List ℕ) (whole : IsTrue (is_whole t)) where
-  stand : AllStandAnywhere (mark_pieces (pieces_of t))
+  pub stand : AllStandAnywhere (mark_pieces (pieces_of t))
   stand = filter_stand (λ p. not (is_text p)) (pieces_of t) (pieces_stand t whole)
 
-  is_whole-sequences : IsTrue (is_whole (sequences t))
+  pub is_whole-sequences : IsTrue (is_whole (sequences t))
   is_whole-sequences = is_whole-spelled (mark_pieces (pieces_of t)) stand
 
-  styled_from-sequences : (s : Rendition) → styled_from s (sequences t) ≡ []
+  pub styled_from-sequences : (s : Rendition) → styled_from s (sequences t) ≡ []
   styled_from-sequences s = styled_from-spelled s (mark_pieces (pieces_of t)) stand ∙ styled_through-marks s (pieces_of t)
 
-  style_after-sequences : (s : Rendition) → style_after_from s (sequences t) ≡ style_after_from s t
+  pub style_after-sequences : (s : Rendition) → style_after_from s (sequences t) ≡ style_after_from s t
   style_after-sequences s = style_after_from-spelled s (mark_pieces (pieces_of t)) stand ∙ style_through-marks s (pieces_of t) ∙ sym (style_after_from-pieces s t)
 
 -- Sequences in a row.
@@ -201,11 +201,11 @@ size-front s t n whole =
     let all : length u + length v ≡ length (plain t) = sym (length-append u v) ∙ sym (ap length (styled_from-parts s t n whole)) ∙ length-styled_from s t in
     length-styled_from s (front n t) ∙ ap length (is_cut_after t n (offset_of t n) refl).plain_front ∙ length-take n (plain t) ∙ ap (min n) (sym all)
 
-styled_from-front : (s : Rendition) (t : List ℕ) (n : ℕ) → IsTrue (is_whole t) → styled_from s (front n t) ≡ take n (styled_from s t)
+pub styled_from-front : (s : Rendition) (t : List ℕ) (n : ℕ) → IsTrue (is_whole t) → styled_from s (front n t) ≡ take n (styled_from s t)
 styled_from-front s t n whole =
     sym (ap (take n) (styled_from-parts s t n whole) ∙ take_parts n (styled_from s (front n t)) (styled_from (style_within s t n) (rest n t)) (size-front s t n whole))
 
-styled_from-rest : (s : Rendition) (t : List ℕ) (n : ℕ) → IsTrue (is_whole t) → styled_from (style_within s t n) (rest n t) ≡ drop n (styled_from s t)
+pub styled_from-rest : (s : Rendition) (t : List ℕ) (n : ℕ) → IsTrue (is_whole t) → styled_from (style_within s t n) (rest n t) ≡ drop n (styled_from s t)
 styled_from-rest s t n whole =
     sym (ap (drop n) (styled_from-parts s t n whole) ∙ drop_parts n (styled_from s (front n t)) (styled_from (style_within s t n) (rest n t)) (size-front s t n whole))
 

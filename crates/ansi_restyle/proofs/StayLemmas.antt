@@ -13,14 +13,14 @@ use Rattle.ansi_restyle.specs.Restyled.{other_marks}
 use Rattle.ansi_restyle.proofs.OtherLemmas.{is_sgr-text}
 
 -- the marks that aren't SGRs
-abbrev others : List Mark → List Mark
+abbrev pub others : List Mark → List Mark
 others ms = filter (λ (m : Mark). not (is_sgr m.bytes)) ms
 
 -- the pieces that aren't SGRs
 abbrev other_pieces : List Piece → List Piece
 other_pieces ps = filter (λ p. not (is_sgr (spelling p))) ps
 
-others-further : (n : ℕ) (ms : List Mark) → others (map (mark_further_on n) ms) ≡ map (mark_further_on n) (others ms)
+pub others-further : (n : ℕ) (ms : List Mark) → others (map (mark_further_on n) ms) ≡ map (mark_further_on n) (others ms)
 others-further n [] = refl
 others-further n (m ∷ ms) = by_kind (is_sgr m.bytes) (others-further n ms)
   where

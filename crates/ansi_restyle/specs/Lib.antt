@@ -3,3 +3,4 @@ pub mod Matches
 pub mod Ranges
 pub mod Restyled
 pub mod Removed
+pub mod Replaced

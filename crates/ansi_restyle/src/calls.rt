@@ -5,21 +5,24 @@ ghost use Rattle.std.specs.Cow.{cow_str_bytes, IsBorrowedStr};
 ghost use Rattle.ansi_items.specs.Pieces.{pieces_of};
 ghost use Rattle.ansi_items.specs.Plain.{plain, is_text, is_whole};
 ghost use Rattle.ansi_search.specs.Matches.{first_match_from};
-ghost use Rattle.ansi_search.specs.Positions.{is_good_range};
+ghost use Rattle.ansi_search.specs.Positions.{is_char_boundary, is_good_range};
 ghost use Rattle.ansi_style.specs.Written.{written};
 ghost use Rattle.ansi_restyle.specs.Matches.{matches};
 ghost use Rattle.ansi_restyle.specs.Ranges.{are_in_turn, are_empty};
 ghost use Rattle.ansi_restyle.specs.Removed.{removed, IsRemoved};
+ghost use Rattle.ansi_restyle.specs.Replaced.{replaced, IsReplaced};
 ghost use Rattle.ansi_restyle.specs.Restyled.{is_change, restyled, IsRestyled};
 
 use crate::matches::{Matches, find_from};
 use crate::remove::remove_in;
+use crate::replace::{insert_in, replace_in};
 use crate::restyle::{mark_in, restyle_in};
 use ansi_str::AnsiStr;
 use std::alloc::{AllocError, Global};
 use std::borrow::CowStr;
 
-/// The matches of a pattern in a text, parts of a text in another style, and a text without a part.
+/// The matches of a pattern in a text, parts of a text in another style, and a text without a part,
+/// or with another text in its place.
 ///
 /// Implemented for every type that implements [`AnsiStr`]. The results depend on the text alone,
 /// not on its type.
@@ -184,6 +187,85 @@ pub trait AnsiRestyle: AnsiStr {
             ⊎ IsFalse (are_in_turn (plain (Self.text self.now)) 0 (range ∷ [])) → IsOk result }
     {
         remove_in(alloc, self.as_text(), range)
+    }
+
+    /// The text with another text in place of a range of its plain text.
+    ///
+    /// The new text is in the style of the character before the range; at the front, of the first
+    /// character. Its own sequences come on top of that. Where it ends, the style that it opened
+    /// ends. Each character before the range or after it keeps its style. Every sequence of the
+    /// text stays, those in the range behind the new text. Links of the new text are copied as they
+    /// are: it should close one that it opens, and in a link of the text it ends that link too.
+    ///
+    /// A range is a pair of positions, which count bytes of the plain text. It is `None` exactly if
+    /// `ansi_restyle` would refuse the range: if it ends before it begins, or a position of it is
+    /// past the end of the plain text or inside a character.
+    ///
+    /// It is a borrow if the range ends where it begins and the new text is empty. A borrow and a
+    /// `None` don't allocate. Otherwise it is owned, and at most 251 bytes longer than both texts.
+    /// `Err` means out of memory. Takes time in proportion to both texts. (Own.)
+    ///
+    /// ```
+    /// let replaced = "\x1b[32mgreen\x1b[39m".ansi_replace(rt.alloc(), (1, 3), "\x1b[1mAB");
+    /// assert!(rt; matches!(&replaced, Ok(Some(replaced)) if replaced.as_str() == "\x1b[32mg\x1b[1mAB\x1b[22m\x1b[39m\x1b[32men\x1b[39m"));
+    /// assert!(rt; matches!("one".ansi_replace(rt.alloc(), (2, 5), "1"), Ok(None)));
+    /// ```
+    final fn ansi_replace(
+        &self,
+        alloc: Global,
+        range: (usize, usize),
+        with: &str,
+    ) -> Result<Option<CowStr<'_>>, AllocError>
+        ensures headline { IsTrue (is_whole (Self.text self.now) && is_whole with.now) →
+            IfOk result (λ o. IfSome o (λ c.
+            IsReplaced (Self.text self.now) range.0 range.1 with.now (cow_str_bytes c))) }
+        ensures none { IfOk result (λ o. IsNone o
+            ↔ IsFalse (are_in_turn (plain (Self.text self.now)) 0 (range ∷ []))) }
+        ensures bytes { IfOk result (λ o. IfSome o (λ c.
+            cow_str_bytes c ≡ replaced (Self.text self.now) range.0 range.1 with.now)) }
+        ensures borrowed { IfOk result (λ o. IfSome o (λ c.
+            IsBorrowedStr c ↔ ((range.0 ≡ range.1) × (with.now ≡ [])))) }
+        ensures len { IfOk result (λ o. IfSome o (λ c.
+            length (cow_str_bytes c) ≤ length (Self.text self.now) + length with.now + 251)) }
+        ensures takes_no_memory { ((range.0 ≡ range.1) × (with.now ≡ []))
+            ⊎ IsFalse (are_in_turn (plain (Self.text self.now)) 0 (range ∷ [])) → IsOk result }
+    {
+        replace_in(alloc, self.as_text(), range, with)
+    }
+
+    /// The text with another text put in at a position, as `ansi_replace` does it with an empty
+    /// range there.
+    ///
+    /// The position counts bytes of the plain text. It is `None` exactly if the position is past the
+    /// end of the plain text or inside a character. It is a borrow if the new text is empty. A
+    /// borrow and a `None` don't allocate. `Err` means out of memory. (Own.)
+    ///
+    /// ```
+    /// let longer = "\x1b[32mgreen\x1b[39m.".ansi_insert(rt.alloc(), 5, "ish");
+    /// assert!(rt; matches!(&longer, Ok(Some(longer)) if longer.as_str() == "\x1b[32mgreenish\x1b[39m."));
+    /// assert!(rt; matches!("one".ansi_insert(rt.alloc(), 4, "s"), Ok(None)));
+    /// ```
+    final fn ansi_insert(
+        &self,
+        alloc: Global,
+        position: usize,
+        with: &str,
+    ) -> Result<Option<CowStr<'_>>, AllocError>
+        ensures headline { IsTrue (is_whole (Self.text self.now) && is_whole with.now) →
+            IfOk result (λ o. IfSome o (λ c.
+            IsReplaced (Self.text self.now) position position with.now (cow_str_bytes c))) }
+        ensures none { IfOk result (λ o. IsNone o
+            ↔ IsFalse (is_char_boundary (plain (Self.text self.now)) position)) }
+        ensures bytes { IfOk result (λ o. IfSome o (λ c.
+            cow_str_bytes c ≡ replaced (Self.text self.now) position position with.now)) }
+        ensures borrowed { IfOk result (λ o. IfSome o (λ c.
+            IsBorrowedStr c ↔ (with.now ≡ []))) }
+        ensures len { IfOk result (λ o. IfSome o (λ c.
+            length (cow_str_bytes c) ≤ length (Self.text self.now) + length with.now + 251)) }
+        ensures takes_no_memory { (with.now ≡ [])
+            ⊎ IsFalse (is_char_boundary (plain (Self.text self.now)) position) → IsOk result }
+    {
+        insert_in(alloc, self.as_text(), position, with)
     }
 }
 

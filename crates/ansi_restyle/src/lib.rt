@@ -1,5 +1,5 @@
 //! The matches of a pattern in a text, taken as if its sequences weren't there, parts of a text in
-//! another style, and a text without a part.
+//! another style, and a text without a part, or with another text in its place.
 //!
 //! Positions count the bytes of the plain text, as in `ansi_str`. `CALLING.md` beside this folder
 //! says how a crate depends on this one and calls it.
@@ -9,6 +9,7 @@ pub mod calls;
 pub mod laws;
 pub mod matches;
 pub mod remove;
+pub mod replace;
 mod rest;
 pub mod restyle;
 

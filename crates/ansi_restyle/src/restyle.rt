@@ -132,7 +132,7 @@ fn are_empty(ranges: &[(usize, usize)]) -> bool
 }
 
 /// Whether the ranges are in the plain text and follow one another, from a character to another.
-fn are_in_turn(text: &str, ranges: &[(usize, usize)]) -> bool
+pub(crate) fn are_in_turn(text: &str, ranges: &[(usize, usize)]) -> bool
     ensures { result ≡ are_in_turn (plain text.now) 0 ranges.now }
 {
     let mut style = styles::plain_style();

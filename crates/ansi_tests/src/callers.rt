@@ -10,6 +10,7 @@ pub mod matches;
 pub mod modules;
 pub mod parts;
 pub mod positions;
+pub mod replaces;
 pub mod scans;
 pub mod searches;
 pub mod styles;

@@ -2,6 +2,7 @@
 use ansi_restyle::AnsiRestyle;
 use ansi_restyle::matches::Matches;
 use ansi_restyle::remove::remove_in;
+use ansi_restyle::replace::{insert_in, replace_in};
 use ansi_restyle::restyle::{mark_in, restyle_in};
 
 #[test]
@@ -80,4 +81,38 @@ fn ansi_remove_example(rt: HostRuntime) {
         matches!(&shorter, Ok(Some(shorter)) if shorter.as_str() == "on\x1b[1mwo\x1b[22m three")
     );
     assert!(rt; matches!("one".ansi_remove(rt.alloc(), (2, 5)), Ok(None)));
+}
+
+#[test]
+fn replace_in_example(rt: HostRuntime) {
+    let replaced = replace_in(rt.alloc(), "a \x1b[31mred\x1b[39m b", (2, 5), "\x1b[1mbig");
+    assert!(rt;
+        matches!(&replaced, Ok(Some(replaced)) if replaced.as_str() == "a \x1b[1mbig\x1b[22m\x1b[31m\x1b[39m b")
+    );
+}
+
+#[test]
+fn insert_in_example(rt: HostRuntime) {
+    let longer = insert_in(rt.alloc(), "a \x1b[31mred\x1b[39m b", 5, "dish");
+    assert!(rt;
+        matches!(&longer, Ok(Some(longer)) if longer.as_str() == "a \x1b[31mreddish\x1b[39m b")
+    );
+}
+
+#[test]
+fn ansi_replace_example(rt: HostRuntime) {
+    let replaced = "\x1b[32mgreen\x1b[39m".ansi_replace(rt.alloc(), (1, 3), "\x1b[1mAB");
+    assert!(rt;
+        matches!(&replaced, Ok(Some(replaced)) if replaced.as_str() == "\x1b[32mg\x1b[1mAB\x1b[22m\x1b[39m\x1b[32men\x1b[39m")
+    );
+    assert!(rt; matches!("one".ansi_replace(rt.alloc(), (2, 5), "1"), Ok(None)));
+}
+
+#[test]
+fn ansi_insert_example(rt: HostRuntime) {
+    let longer = "\x1b[32mgreen\x1b[39m.".ansi_insert(rt.alloc(), 5, "ish");
+    assert!(rt;
+        matches!(&longer, Ok(Some(longer)) if longer.as_str() == "\x1b[32mgreenish\x1b[39m.")
+    );
+    assert!(rt; matches!("one".ansi_insert(rt.alloc(), 4, "s"), Ok(None)));
 }
