@@ -5,4 +5,5 @@ pub mod Steps
 pub mod Walks
 pub mod Columns
 pub mod Safe
+pub mod Restyles
 pub mod Calls

@@ -11,6 +11,7 @@ pub mod columns;
 pub mod edits;
 pub mod lines;
 pub mod lists;
+pub mod restyles;
 pub mod safe;
 pub mod searches;
 pub mod texts;

@@ -3,8 +3,10 @@ ghost use Rattle.ansi_str.specs.Plain.{plain};
 ghost use Rattle.ansi_calls.specs.Answers.{TellsPlace};
 ghost use Rattle.ansi_calls.specs.Calls.{Finds, FindsBoundary, TestsFront, TestsEnd, TestsBoundary};
 ghost use Rattle.ansi_calls.specs.Calls.{TestsWhole, TestsEscape};
+ghost use Rattle.ansi_calls.specs.Restyles.{FindsFrom};
 
 use crate::answers::{Answer, NO, NOT_UTF8};
+use ansi_restyle::matches;
 use ansi_safe::utf8::from_utf8;
 use ansi_str::{AnsiStr, ansi_is_whole};
 
@@ -29,6 +31,23 @@ pub fn find_text(text: &str, pat: &str) -> Answer
         Some(place) => Answer::done(place),
         None => Answer::failed(NO),
     }
+}
+
+/// The position of the first match of the pattern in the plain text that doesn't begin before a
+/// position.
+pub fn find_from(text: &[u8], position: usize, pattern: &[u8]) -> Answer
+    ensures { FindsFrom text.now position pattern.now result }
+{
+    let Ok(text) = from_utf8(text) else {
+        return Answer::failed(NOT_UTF8);
+    };
+    let Ok(pat) = from_utf8(pattern) else {
+        return Answer::failed(NOT_UTF8);
+    };
+    let Some(place) = matches::find_from(text, position, pat) else {
+        return Answer::failed(NO);
+    };
+    Answer::done(place)
 }
 
 /// Whether the plain text begins with the pattern.

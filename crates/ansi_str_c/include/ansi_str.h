@@ -2,7 +2,7 @@
 
    Units. The plain text is the text without its sequences. Positions and lengths count bytes: positions those of the plain
    text, lengths those of what is written. A position past the end of the plain text counts as its end, so a cut with the
-   end SIZE_MAX goes up to the end.
+   end SIZE_MAX goes up to the end; only ansi_str_restyle and ansi_str_remove refuse it.
 
    Texts and buffers. A call takes each text and each pattern as a pointer and a length. They are UTF-8, need no 0 at their
    end and may contain one, and are read only during the call. The call writes its result into the caller's buffer. So
@@ -40,7 +40,7 @@ enum {
     ANSI_STR_OK = 0,
     /* it is false, or there is no such thing: no match of the pattern, no part or block of that index, or no link there */
     ANSI_STR_NO = 1,
-    /* a position is inside a character, or the end of a range is below its start; or an edit is refused */
+    /* a position is inside a character, or the end of a range is below its start; an edit is refused; or codes or ranges are */
     ANSI_STR_REFUSED = 2,
     /* the text or a pattern isn't UTF-8 */
     ANSI_STR_NOT_UTF8 = 3,
@@ -199,6 +199,12 @@ typedef struct {
     size_t end;
 } ansi_str_line_entry;
 
+/* A range of a plain text: where it begins and where it ends, in bytes. */
+typedef struct {
+    size_t start;
+    size_t end;
+} ansi_str_range;
+
 /* A walk over the blocks of a text. Its state is the library's own: a caller must not read or set it. The text must live and
    stay unchanged while the walk is used. A copy of a walk is independent of it. */
 typedef union {
@@ -282,6 +288,16 @@ ansi_str_answer ansi_str_raw_strip_suffix(const uint8_t *text, size_t text_len, 
 ansi_str_answer ansi_str_raw_part(const uint8_t *text, size_t text_len, const uint8_t *pattern, size_t pattern_len,
                                   size_t index, uint8_t *buffer, size_t buffer_len);
 ansi_str_answer ansi_str_raw_find(const uint8_t *text, size_t text_len, const uint8_t *pattern, size_t pattern_len);
+ansi_str_answer ansi_str_raw_find_from(const uint8_t *text, size_t text_len, size_t position, const uint8_t *pattern,
+                                       size_t pattern_len);
+ansi_str_answers ansi_str_raw_matches(const uint8_t *text, size_t text_len, const uint8_t *pattern, size_t pattern_len,
+                                      ansi_str_range *ranges, size_t ranges_len);
+ansi_str_answer ansi_str_raw_restyle(const uint8_t *text, size_t text_len, const ansi_str_range *ranges, size_t ranges_len,
+                                     const uint8_t *codes, size_t codes_len, uint8_t *buffer, size_t buffer_len);
+ansi_str_answer ansi_str_raw_mark(const uint8_t *text, size_t text_len, const uint8_t *pattern, size_t pattern_len,
+                                  const uint8_t *codes, size_t codes_len, uint8_t *buffer, size_t buffer_len);
+ansi_str_answer ansi_str_raw_remove(const uint8_t *text, size_t text_len, size_t start, size_t end, uint8_t *buffer,
+                                    size_t buffer_len);
 ansi_str_answer ansi_str_raw_starts_with(const uint8_t *text, size_t text_len, const uint8_t *pattern,
                                          size_t pattern_len);
 ansi_str_answer ansi_str_raw_ends_with(const uint8_t *text, size_t text_len, const uint8_t *pattern,
@@ -435,6 +451,60 @@ static inline ansi_str_answer ansi_str_part(const char *text, size_t text_len, c
 static inline ansi_str_answer ansi_str_find(const char *text, size_t text_len, const char *pattern,
                                             size_t pattern_len) {
     return ansi_str_raw_find(ansi_str_bytes(text), text_len, ansi_str_bytes(pattern), pattern_len);
+}
+
+/* The position of the pattern's first match in the plain text that doesn't begin before a position, which may be inside a
+   character, as the returned length. ANSI_STR_NO: there is no such match. Doesn't allocate.
+   In "ab\x1b[1mab" from 1 on "ab" is at 2. */
+static inline ansi_str_answer ansi_str_find_from(const char *text, size_t text_len, size_t position, const char *pattern,
+                                                 size_t pattern_len) {
+    return ansi_str_raw_find_from(ansi_str_bytes(text), text_len, position, ansi_str_bytes(pattern), pattern_len);
+}
+
+/* Where each match of the pattern begins and ends in the plain text, in order. They don't overlap, and may run across
+   sequences. An empty pattern matches at each beginning of a character and at the end. The returned count is the number of
+   matches, at most one more than the plain text has bytes, and the length 0. ansi_str_restyle takes the ranges as they are.
+   ANSI_STR_TOO_SMALL: there are more than `ranges_len`. Doesn't allocate.
+   "a\x1b[1mba\x1b[0mb" has "ab" from 0 up to 2 and from 2 up to 4. */
+static inline ansi_str_answers ansi_str_matches(const char *text, size_t text_len, const char *pattern, size_t pattern_len,
+                                                ansi_str_range *ranges, size_t ranges_len) {
+    ansi_str_range none;
+    return ansi_str_raw_matches(ansi_str_bytes(text), text_len, ansi_str_bytes(pattern), pattern_len,
+                                ranges == NULL ? &none : ranges, ranges_len);
+}
+
+/* The text with SGR codes applied to each character in the ranges. The codes are the parameters of an SGR, such as "1;31":
+   each character there has its own style after them. So "1" makes it bold and keeps its color, "22" makes it neither bold nor
+   faint, and "0" or no code makes it plain. Every other character keeps its style; the plain text and every other sequence stay.
+   The result is at most codes_len + 3 + ANSI_STR_LONGEST_START_AND_CLOSE bytes longer for each range and for each block of the
+   text. ANSI_STR_REFUSED: the codes have a byte other than a digit, ";" and ":"; or a range begins before the one before it ends,
+   ends below its start or past the end of the plain text, or begins or ends inside a character. ANSI_STR_NOT_UTF8: the text or
+   the codes aren't UTF-8. Allocates if there is a range, on any text.
+   "red \x1b[31mred" with "4" from 0 up to 2 and from 5 up to 6 gives
+   "\x1b[4mre\x1b[24md \x1b[31mr\x1b[4me\x1b[24m\x1b[39m\x1b[31md". */
+static inline ansi_str_answer ansi_str_restyle(const char *text, size_t text_len, const ansi_str_range *ranges, size_t ranges_len,
+                                               const char *codes, size_t codes_len, char *buffer, size_t buffer_len) {
+    ansi_str_range none = {0, 0};
+    return ansi_str_raw_restyle(ansi_str_bytes(text), text_len, ranges == NULL ? &none : ranges, ranges_len,
+                                ansi_str_bytes(codes), codes_len, ansi_str_room(buffer), buffer_len);
+}
+
+/* The text with SGR codes applied to each match of the pattern, as ansi_str_matches finds them and ansi_str_restyle applies them.
+   ANSI_STR_REFUSED: the codes have a byte other than a digit, ";" and ":". Allocates if a match isn't empty, on any text.
+   "to do: \x1b[1mdo" with "do" and "7" gives "to \x1b[7mdo\x1b[27m: \x1b[1m\x1b[7mdo\x1b[22m\x1b[27m\x1b[1m". */
+static inline ansi_str_answer ansi_str_mark(const char *text, size_t text_len, const char *pattern, size_t pattern_len,
+                                            const char *codes, size_t codes_len, char *buffer, size_t buffer_len) {
+    return ansi_str_raw_mark(ansi_str_bytes(text), text_len, ansi_str_bytes(pattern), pattern_len, ansi_str_bytes(codes),
+                             codes_len, ansi_str_room(buffer), buffer_len);
+}
+
+/* The text without its plain bytes from one position up to another. Every sequence stays, so each character that is left keeps its
+   style. It is never longer than the text. ANSI_STR_REFUSED: `end` is below `start` or past the end of the plain text, or a
+   position is inside a character. Allocates if the range isn't empty, on any text.
+   "one \x1b[1mtwo\x1b[22m three" from 2 up to 5 gives "on\x1b[1mwo\x1b[22m three". */
+static inline ansi_str_answer ansi_str_remove(const char *text, size_t text_len, size_t start, size_t end, char *buffer,
+                                              size_t buffer_len) {
+    return ansi_str_raw_remove(ansi_str_bytes(text), text_len, start, end, ansi_str_room(buffer), buffer_len);
 }
 
 /* Whether the plain text begins with the pattern: ANSI_STR_OK or ANSI_STR_NO. Doesn't allocate. */

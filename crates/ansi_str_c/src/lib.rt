@@ -6,6 +6,7 @@
 pub mod blocks;
 pub mod columns;
 pub mod lists;
+pub mod restyles;
 pub mod safe;
 pub mod searches;
 pub mod texts;
