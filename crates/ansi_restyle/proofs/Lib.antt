@@ -14,3 +14,4 @@ mod LengthExamples
 pub mod RemovedLemmas
 pub mod PlaceLemmas
 pub mod ReplacedLemmas
+pub mod ReplaceLawLemmas

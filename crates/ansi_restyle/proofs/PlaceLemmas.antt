@@ -71,10 +71,10 @@ are_whole-after_text : (w : List ℕ) (ps : List Piece) → are_whole (after_tex
 are_whole-after_text w (Text v ∷ ps) = refl
 are_whole-after_text w ps = refl
 
-take_seam : {A : Type 0} (n : ℕ) (u v : List A) → length u ≡ n → take n (u ++ v) ≡ u
+pub take_seam : {A : Type 0} (n : ℕ) (u v : List A) → length u ≡ n → take n (u ++ v) ≡ u
 take_seam n u v size = take-append-le n u v (omega (arith, size)) ∙ take_all n u (omega (arith, size))
 
-drop_seam : {A : Type 0} (n : ℕ) (u v : List A) → length u ≡ n → drop n (u ++ v) ≡ v
+pub drop_seam : {A : Type 0} (n : ℕ) (u v : List A) → length u ≡ n → drop n (u ++ v) ≡ v
 drop_seam n u v size =
     let none : n - length u ≡ 0 = omega (arith, size) in
     drop-append n u v ∙ ap₂ (λ w k. w ++ drop k v) (drop_all n u (omega (arith, size))) none

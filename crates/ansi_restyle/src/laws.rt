@@ -2,13 +2,16 @@
 //!
 //! Each function has one law as its contract, does nothing and returns nothing. A body that needs
 //! the law calls it, as `laws::other_marks_stay();`. (Own.)
-ghost use Rattle.std.specs.Prelude.{◌≡◌, ◌++◌, ℕ, List, [], IsTrue};
-ghost use Rattle.ansi_items.specs.Plain.{is_whole};
+ghost use Rattle.std.specs.Prelude.{◌≡◌, ◌<◌, ◌≤◌, ◌-◌, ◌++◌, ℕ, List, [], IsTrue, length};
+ghost use Rattle.std.specs.Prelude.{slice_range};
+ghost use Rattle.ansi_items.specs.Plain.{plain, is_whole};
 ghost use Rattle.ansi_style.specs.Rendition.{known};
-ghost use Rattle.ansi_style.specs.Reading.{style_after_from};
-ghost use Rattle.ansi_style.specs.Styled.{StyledByte, styled};
+ghost use Rattle.ansi_style.specs.Reading.{style_after_from, styled_from};
+ghost use Rattle.ansi_style.specs.Styled.{StyledByte, styled, style_at};
 ghost use Rattle.ansi_style.specs.Written.{written};
 ghost use Rattle.ansi_restyle.specs.Ranges.{are_empty};
+ghost use Rattle.ansi_restyle.specs.Removed.{IsRemoved};
+ghost use Rattle.ansi_restyle.specs.Replaced.{IsReplaced};
 ghost use Rattle.ansi_restyle.specs.Restyled.{is_change, changed_byte, changed_within};
 ghost use Rattle.ansi_restyle.specs.Restyled.{restyled, IsRestyled, other_marks};
 
@@ -37,4 +40,26 @@ pub fn changes_add_up()
         changed_byte (written second) (changed_byte (written first) b) ≡ record b {
           style = known (style_after_from b.style (written first ++ written second));
         } }
+{}
+
+/// A text that shows what the range shows changes nothing that is shown. It is read in the style of
+/// the place.
+pub fn alike_replacements_change_nothing()
+    ensures { (t w u : List ℕ) (a b : ℕ) → a ≤ b → IsReplaced t a b w u →
+        styled_from (style_at t (a - 1)) w ≡ slice_range (styled t) a b → styled u ≡ styled t }
+{}
+
+/// An empty text in place of a range removes the range.
+pub fn empty_replacements_remove()
+    ensures styled { (t u v : List ℕ) (a b : ℕ) → IsReplaced t a b [] u → IsRemoved t a b v →
+        styled u ≡ styled v }
+    ensures plain { (t u v : List ℕ) (a b : ℕ) → IsReplaced t a b [] u → IsRemoved t a b v →
+        plain u ≡ plain v }
+{}
+
+/// A text that is put in where a range was removed shows what it shows in place of the range,
+/// except at the front, where it is in the style of what is then the first character.
+pub fn insertions_replace_what_was_removed()
+    ensures { (t w u v x : List ℕ) (a b : ℕ) → 0 < a → a ≤ length (plain t) → IsRemoved t a b u →
+        IsReplaced u a a w v → IsReplaced t a b w x → styled v ≡ styled x }
 {}
