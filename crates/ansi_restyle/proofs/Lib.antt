@@ -15,3 +15,4 @@ pub mod RemovedLemmas
 pub mod PlaceLemmas
 pub mod ReplacedLemmas
 pub mod ReplaceLawLemmas
+pub mod WithoutLinksLemmas

@@ -57,7 +57,7 @@ marks_of-after_text w (Text v ∷ ps) =
     ∙ sym (ap (map (mark_further_on (length w))) (marks_of-text v ps) ∙ further_twice (length w) (length v) (marks_of ps))
 marks_of-after_text w (p ∷ ps) = marks_of-text w (p ∷ ps)
 
-marks_of-merged : (ps : List Piece) → marks_of (merged ps) ≡ marks_of ps
+pub marks_of-merged : (ps : List Piece) → marks_of (merged ps) ≡ marks_of ps
 marks_of-merged [] = refl
 marks_of-merged (Text w ∷ ps) = marks_of-after_text w (merged ps) ∙ ap (map (mark_further_on (length w))) (marks_of-merged ps) ∙ sym (marks_of-text w ps)
 marks_of-merged (p ∷ ps) = marks_of-mark p (merged ps) refl ∙ ap (λ ms. record { place = 0; bytes = spelling p } ∷ ms) (marks_of-merged ps) ∙ sym (marks_of-mark p ps refl)

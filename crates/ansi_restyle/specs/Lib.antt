@@ -4,3 +4,4 @@ pub mod Ranges
 pub mod Restyled
 pub mod Removed
 pub mod Replaced
+pub mod Links

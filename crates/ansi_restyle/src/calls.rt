@@ -7,12 +7,14 @@ ghost use Rattle.ansi_items.specs.Plain.{plain, is_text, is_whole};
 ghost use Rattle.ansi_search.specs.Matches.{first_match_from};
 ghost use Rattle.ansi_search.specs.Positions.{is_char_boundary, is_good_range};
 ghost use Rattle.ansi_style.specs.Written.{written};
+ghost use Rattle.ansi_restyle.specs.Links.{has_link, without_links, IsWithoutLinks};
 ghost use Rattle.ansi_restyle.specs.Matches.{matches};
 ghost use Rattle.ansi_restyle.specs.Ranges.{are_in_turn, are_empty};
 ghost use Rattle.ansi_restyle.specs.Removed.{removed, IsRemoved};
 ghost use Rattle.ansi_restyle.specs.Replaced.{replaced, IsReplaced};
 ghost use Rattle.ansi_restyle.specs.Restyled.{is_change, restyled, IsRestyled};
 
+use crate::links::unlink_in;
 use crate::matches::{Matches, find_from};
 use crate::remove::remove_in;
 use crate::replace::{insert_in, replace_in};
@@ -22,7 +24,7 @@ use std::alloc::{AllocError, Global};
 use std::borrow::CowStr;
 
 /// The matches of a pattern in a text, parts of a text in another style, and a text without a part,
-/// or with another text in its place.
+/// with another text in its place, or without its links.
 ///
 /// Implemented for every type that implements [`AnsiStr`]. The results depend on the text alone,
 /// not on its type.
@@ -266,6 +268,32 @@ pub trait AnsiRestyle: AnsiStr {
             ⊎ IsFalse (is_char_boundary (plain (Self.text self.now)) position) → IsOk result }
     {
         insert_in(alloc, self.as_text(), position, with)
+    }
+
+    /// The text without its links.
+    ///
+    /// Its link sequences (OSC 8), which open or close a link, are left out. Everything else stays as
+    /// it is: the plain text, each character's style, and every other sequence at its place.
+    ///
+    /// It is a borrow if the text has no link sequence. A borrow doesn't allocate. Otherwise it is
+    /// owned, and shorter than the text. `Err` means out of memory. Takes time in proportion to the
+    /// text. (Own.)
+    ///
+    /// ```
+    /// let bare = "\x1b]8;;http://x\x1b\\a \x1b[1mlink\x1b[0m\x1b]8;;\x1b\\".ansi_unlink(rt.alloc());
+    /// assert!(rt; matches!(&bare, Ok(bare) if bare.as_str() == "a \x1b[1mlink\x1b[0m"));
+    /// ```
+    final fn ansi_unlink(&self, alloc: Global) -> Result<CowStr<'_>, AllocError>
+        ensures headline { IsTrue (is_whole (Self.text self.now)) → IfOk result (λ c.
+            IsWithoutLinks (Self.text self.now) (cow_str_bytes c)) }
+        ensures bytes { IfOk result (λ c. cow_str_bytes c ≡ without_links (Self.text self.now)) }
+        ensures borrowed { IfOk result (λ c.
+            IsBorrowedStr c ↔ IsFalse (has_link (Self.text self.now))) }
+        ensures len { IfOk result (λ c.
+            length (cow_str_bytes c) ≤ length (Self.text self.now)) }
+        ensures takes_no_memory { IsFalse (has_link (Self.text self.now)) → IsOk result }
+    {
+        unlink_in(alloc, self.as_text())
     }
 }
 

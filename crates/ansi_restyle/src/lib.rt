@@ -1,5 +1,5 @@
 //! The matches of a pattern in a text, taken as if its sequences weren't there, parts of a text in
-//! another style, and a text without a part, or with another text in its place.
+//! another style, and a text without a part, with another text in its place, or without its links.
 //!
 //! Positions count the bytes of the plain text, as in `ansi_str`. `CALLING.md` beside this folder
 //! says how a crate depends on this one and calls it.
@@ -7,6 +7,7 @@
 
 pub mod calls;
 pub mod laws;
+pub mod links;
 pub mod matches;
 pub mod remove;
 pub mod replace;

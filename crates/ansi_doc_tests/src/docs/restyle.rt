@@ -1,5 +1,6 @@
 //! The examples of the docs of `ansi_restyle`, in the same words.
 use ansi_restyle::AnsiRestyle;
+use ansi_restyle::links::unlink_in;
 use ansi_restyle::matches::Matches;
 use ansi_restyle::remove::remove_in;
 use ansi_restyle::replace::{insert_in, replace_in};
@@ -115,4 +116,16 @@ fn ansi_insert_example(rt: HostRuntime) {
         matches!(&longer, Ok(Some(longer)) if longer.as_str() == "\x1b[32mgreenish\x1b[39m.")
     );
     assert!(rt; matches!("one".ansi_insert(rt.alloc(), 4, "s"), Ok(None)));
+}
+
+#[test]
+fn unlink_in_example(rt: HostRuntime) {
+    let bare = unlink_in(rt.alloc(), "\x1b]8;;http://x\x1b\\a\x1b[1mb\x1b]8;;\x1b\\");
+    assert!(rt; matches!(&bare, Ok(bare) if bare.as_str() == "a\x1b[1mb"));
+}
+
+#[test]
+fn ansi_unlink_example(rt: HostRuntime) {
+    let bare = "\x1b]8;;http://x\x1b\\a \x1b[1mlink\x1b[0m\x1b]8;;\x1b\\".ansi_unlink(rt.alloc());
+    assert!(rt; matches!(&bare, Ok(bare) if bare.as_str() == "a \x1b[1mlink\x1b[0m"));
 }
