@@ -47,7 +47,22 @@ QUESTION(width) QUESTION(fitting, n) QUESTION(column_of, n) TEXT(link_at, n) TEX
 TEXT(sanitize, ANSI_STR_SHOW, ANSI_STR_KEEP_LINKS) TEXT(sanitize_bytes, ANSI_STR_SHOW, ANSI_STR_KEEP_LINKS)
 QUESTION(is_safe, ANSI_STR_KEEP_LINKS)
 QUESTION(starts_with, p.at, p.len) QUESTION(ends_with, p.at, p.len) QUESTION(find, p.at, p.len)
+QUESTION(find_from, n, p.at, p.len) TEXT(mark, p.at, p.len, "1", 1)
 
+/* up to a position (C has the name `remove`) */
+static size_t remove_to(struct bytes t, size_t n, struct bytes p) {
+    (void)p;
+    return len_of(ansi_str_remove(t.at, t.len, 0, n, NULL, 0));
+}
+static size_t restyle_to(struct bytes t, size_t n, struct bytes p) {
+    (void)p;
+    const ansi_str_range range = {0, n};
+    return len_of(ansi_str_restyle(t.at, t.len, &range, 1, "1", 1, NULL, 0));
+}
+static size_t matches(struct bytes t, size_t n, struct bytes p) {
+    (void)n;
+    return count_of(ansi_str_matches(t.at, t.len, p.at, p.len, NULL, 0));
+}
 /* truncated to `position` columns (POSIX has the name `truncate`) */
 static size_t truncate_to(struct bytes t, size_t n, struct bytes p) {
     return len_of(ansi_str_truncate(t.at, t.len, n, p.at, p.len, NULL, 0));
@@ -119,7 +134,8 @@ static const struct call CALLS[] = {
     {"fit", fit, 1, 1, 0}, {"truncate_with", truncate_with, 1, 1, 0}, {"slice", slice, 1, 0, 0}, {"expand_tabs", expand_tabs, 1, 0, 0},
     {"wrap", wrap, 1, 0, 1}, {"lines", lines, 1, 0, 1}, {"link_at", link_at, 1, 0, 0},
     {"sanitize", sanitize, 0, 0, 0}, {"sanitize_bytes", sanitize_bytes, 0, 0, 0}, {"is_safe", is_safe, 0, 0, 0},
-    {"find", find, 0, 1, 0}, {"split", split, 0, 1, 1}, {"part", part, 1, 1, 0},
+    {"remove to", remove_to, 1, 0, 0}, {"restyle to", restyle_to, 1, 0, 0}, {"matches", matches, 0, 1, 1}, {"mark", mark, 0, 1, 0},
+    {"find_from", find_from, 1, 1, 0}, {"find", find, 0, 1, 0}, {"split", split, 0, 1, 1}, {"part", part, 1, 1, 0},
 };
 enum { CALL_COUNT = sizeof CALLS / sizeof CALLS[0] };
 

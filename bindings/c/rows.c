@@ -136,6 +136,19 @@ static ansi_str_edit_step *edits_of(const struct row *r, size_t *count) {
     return edits;
 }
 
+/* The ranges of a row, which follow its codes: two numbers each, with a comma between. */
+static ansi_str_range *ranges_of(const struct row *r, size_t *count) {
+    *count = r->count - 5;
+    ansi_str_range *ranges = __real_malloc((*count + 1) * sizeof *ranges);
+    for (size_t i = 0; i < *count; i++) {
+        char *end;
+        ranges[i].start = (size_t)strtoull(argument(r, 1 + i)->bytes, &end, 10);
+        expect("a range", *end == ',');
+        ranges[i].end = (size_t)strtoull(end + 1, NULL, 10);
+    }
+    return ranges;
+}
+
 /* One call of a row that writes a text. */
 static ansi_str_answer call(const struct row *r, char *buffer, size_t len) {
     const char *name = r->fields[0].bytes;
@@ -183,8 +196,18 @@ static ansi_str_answer call(const struct row *r, char *buffer, size_t len) {
     } else if (strcmp(name, "sanitize_bytes") == 0) {
         return ansi_str_sanitize_bytes(TEXT(t), number_of(argument(r, 0)), number_of(argument(r, 1)), buffer, len);
     }
-    expect("the call is known", strcmp(name, "edit") == 0);
     size_t count;
+    if (strcmp(name, "mark") == 0) {
+        return ansi_str_mark(TEXT(t), TEXT(argument(r, 0)), TEXT(argument(r, 1)), buffer, len);
+    } else if (strcmp(name, "remove") == 0) {
+        return ansi_str_remove(TEXT(t), position(r, 0), position(r, 1), buffer, len);
+    } else if (strcmp(name, "restyle") == 0) {
+        ansi_str_range *ranges = ranges_of(r, &count);
+        ansi_str_answer restyled = ansi_str_restyle(TEXT(t), ranges, count, TEXT(argument(r, 0)), buffer, len);
+        free(ranges);
+        return restyled;
+    }
+    expect("the call is known", strcmp(name, "edit") == 0);
     ansi_str_edit_step *edits = edits_of(r, &count);
     ansi_str_answer answer = ansi_str_edit(TEXT(t), edits, count, buffer, len);
     free(edits);
@@ -264,6 +287,8 @@ static int expect_told(const struct row *r) {
     granted = 0;
     if (strcmp(name, "find") == 0) {
         answer = ansi_str_find(TEXT(t), TEXT(argument(r, 0)));
+    } else if (strcmp(name, "find_from") == 0) {
+        answer = ansi_str_find_from(TEXT(t), position(r, 0), TEXT(argument(r, 1)));
     } else if (strcmp(name, "starts_with") == 0) {
         answer = ansi_str_starts_with(TEXT(t), TEXT(argument(r, 0)));
     } else if (strcmp(name, "ends_with") == 0) {
@@ -397,6 +422,32 @@ static void expect_lines(const struct row *r) {
     expect("nothing more is written", is_guard((const char *)&lines[count], 0, sizeof *lines));
     expect_next_lines(t, position(r, 0), lines, count);
     free(lines);
+}
+
+/* Where each match of a row's pattern begins and ends: with room for one more, and with too little. The call doesn't allocate. */
+static void expect_matches(const struct row *r) {
+    const struct text *t = text_of(r), *pattern = argument(r, 0);
+    size_t count = number(r, 2);
+    uint32_t status = status_of(r);
+    ansi_str_range *ranges = __real_malloc((count + 1) * sizeof *ranges);
+    memset(ranges, GUARD, (count + 1) * sizeof *ranges);
+    ansi_str_answers answer;
+    granted = 0;
+    if (count > 0) {
+        answer = ansi_str_matches(TEXT(t), TEXT(pattern), ranges, count - 1);
+        expect("too few ranges", answer.status == ANSI_STR_TOO_SMALL && answer.count == count && answer.len == 0);
+        expect("nothing is written", is_guard((const char *)ranges, 0, (count + 1) * sizeof *ranges));
+    }
+    answer = ansi_str_matches(TEXT(t), TEXT(pattern), ranges, count + 1);
+    granted = -1;
+    expect("matches", answer.status == status && answer.count == count && answer.len == 0);
+    for (size_t i = 0; i < count; i++) {
+        char interval[64];
+        snprintf(interval, sizeof interval, "%zu,%zu", ranges[i].start, ranges[i].end);
+        expect("a match", strcmp(interval, argument(r, 1 + i)->bytes) == 0);
+    }
+    expect("nothing more is written", is_guard((const char *)&ranges[count], 0, sizeof *ranges));
+    free(ranges);
 }
 
 /* With this room, which is too small, a call for all parts or lines writes nothing, and returns how much they need. */
@@ -676,7 +727,11 @@ static void expect_failures(void) {
                                        ansi_str_truncate_with("ab", 2, 1, "\xff", 1, ANSI_STR_MIDDLE + 1, buffer, 8),
                                        ansi_str_slice("\xff", 1, 0, 1, buffer, 8),
                                        ansi_str_expand_tabs("\xff", 1, 8, buffer, 8),
-                                       ansi_str_link_at("\xff", 1, 0, buffer, 8)};
+                                       ansi_str_link_at("\xff", 1, 0, buffer, 8),
+                                       ansi_str_find_from("\xff", 1, 0, "a", 1),
+                                       ansi_str_restyle("\xff", 1, NULL, 0, "m", 1, buffer, 8),
+                                       ansi_str_mark("a", 1, "a", 1, "\xff", 1, buffer, 8),
+                                       ansi_str_remove("\xff", 1, 1, 0, buffer, 8)};
     for (size_t i = 0; i < sizeof answers / sizeof answers[0]; i++) {
         expect("no UTF-8", answers[i].status == ANSI_STR_NOT_UTF8 && answers[i].len == 0);
     }
@@ -725,6 +780,12 @@ static void expect_failures(void) {
     expect("nothing", ansi_str_slice(NULL, 0, 0, SIZE_MAX, NULL, 0).status == ANSI_STR_OK);
     expect("nothing", ansi_str_expand_tabs(NULL, 0, 0, NULL, 0).status == ANSI_STR_OK);
     expect("nothing", ansi_str_link_at(NULL, 0, 0, NULL, 0).status == ANSI_STR_NO);
+    expect("nothing", ansi_str_find_from(NULL, 0, 0, NULL, 0).status == ANSI_STR_OK);
+    expect("nothing", ansi_str_restyle(NULL, 0, NULL, 0, NULL, 0, NULL, 0).status == ANSI_STR_OK);
+    expect("nothing", ansi_str_mark(NULL, 0, NULL, 0, NULL, 0, NULL, 0).status == ANSI_STR_OK);
+    expect("nothing", ansi_str_remove(NULL, 0, 0, 0, NULL, 0).status == ANSI_STR_OK);
+    lines = ansi_str_matches(NULL, 0, NULL, 0, NULL, 0);
+    expect("one match", lines.status == ANSI_STR_TOO_SMALL && lines.count == 1 && lines.len == 0);
     expect("nothing", ansi_str_sanitize(NULL, 0, ANSI_STR_DROP, ANSI_STR_REMOVE_LINKS, NULL, 0).status == ANSI_STR_OK);
     expect("nothing", ansi_str_sanitize_bytes(NULL, 0, ANSI_STR_DROP, ANSI_STR_REMOVE_LINKS, NULL, 0).status == ANSI_STR_OK);
     expect("nothing", ansi_str_is_safe(NULL, 0, ANSI_STR_REMOVE_LINKS).status == ANSI_STR_OK);
@@ -794,6 +855,8 @@ static void expect_row(const struct row *r) {
         expect_list(r);
     } else if (strcmp(name, "lines") == 0) {
         expect_lines(r);
+    } else if (strcmp(name, "matches") == 0) {
+        expect_matches(r);
     } else if (strcmp(name, "blocks") == 0) {
         expect_blocks(r);
     } else if (strcmp(name, "styled_blocks") == 0) {

@@ -1,7 +1,7 @@
 // Text with ANSI control sequences, taken as if the sequences weren't there. index.d.ts says what each call does.
 import {
-  END as BYTES_OF_END, LINE, blocks as blocksOf, bytesOf, called, iterBlocks as blockWalk, iterLines as lineWalk, iterParts, listed, noRoom,
-  roomForColumns, roomForEntries, roomForList, roomForOne, told, written,
+  ATTRIBUTES, COLORS, END as BYTES_OF_END, RANGE, blocks as blocksOf, bytesOf, called, iterBlocks as blockWalk, iterLines as lineWalk, iterParts,
+  listed, noRoom, ranged, rangesAsBytes, roomForColumns, roomForEntries, roomForList, roomForOne, told, written,
 } from './memory.js';
 
 export { OutOfMemoryError } from './memory.js';
@@ -27,6 +27,37 @@ const raw = {
   /** The first match in bytes of the plain text, or null. */
   find(text, pattern) {
     return called([text, pattern], [], noRoom, (exports, frame) => exports.ansi_str_raw_find(frame.head[0], ...frame.texts[0], ...frame.texts[1]), told);
+  },
+
+  /** The same from a position in bytes on. */
+  findFrom(text, position, pattern) {
+    return called([text, pattern], [], noRoom,
+      (exports, frame) => exports.ansi_str_raw_find_from(frame.head[0], ...frame.texts[0], BigInt(position), ...frame.texts[1]), told);
+  },
+
+  /** Where each match begins and ends, in bytes of the plain text: the beginning and the end of the first, then those of the next. */
+  matches(text, pattern) {
+    return called([text, pattern], [], roomForEntries(text, RANGE),
+      (exports, frame) => exports.ansi_str_raw_matches(frame.head[0], ...frame.texts[0], ...frame.texts[1], ...frame.list), ranged);
+  },
+
+  /** The text with codes applied in ranges, or null if one of them is refused. The ranges are positions in bytes, as above. */
+  restyle(text, positions, codes) {
+    return called([text, codes, rangesAsBytes(positions)], [], roomForOne, (exports, frame) => {
+      const [ranges, bytes] = frame.texts[2];
+      return exports.ansi_str_raw_restyle(...frame.head, ...frame.texts[0], ranges, bytes / BigInt(RANGE), ...frame.texts[1], ...frame.out);
+    }, written);
+  },
+
+  mark(text, pattern, codes) {
+    return called([text, pattern, codes], [], roomForOne,
+      (exports, frame) => exports.ansi_str_raw_mark(...frame.head, ...frame.texts[0], ...frame.texts[1], ...frame.texts[2], ...frame.out), written);
+  },
+
+  /** The text without a range in bytes, or null if that is refused. */
+  remove(text, start, end) {
+    return called([text], [], roomForOne,
+      (exports, frame) => exports.ansi_str_raw_remove(...frame.head, ...frame.texts[0], BigInt(start), BigInt(end), ...frame.out), written);
   },
 
   startsWith: (text, pattern) => isSo('ansi_str_raw_starts_with', text, pattern),
@@ -102,9 +133,8 @@ const raw = {
 
   /** Where each line begins and ends, in bytes of the plain text: the beginning and the end of the first, then those of the next. */
   lines(text, width) {
-    return called([text], [], roomForEntries(text, LINE),
-      (exports, frame) => exports.ansi_str_raw_lines(frame.head[0], ...frame.texts[0], BigInt(width), ...frame.list),
-      (frame) => Array.from({ length: 2 * told(frame) }, (_, index) => frame.word(frame.entries + index * 8)));
+    return called([text], [], roomForEntries(text, RANGE),
+      (exports, frame) => exports.ansi_str_raw_lines(frame.head[0], ...frame.texts[0], BigInt(width), ...frame.list), ranged);
   },
 
   /** The address of the link at a position in bytes of the plain text, or null. */
@@ -173,6 +203,24 @@ function unitsIn(plain) {
       units += character.length;
     }
     return units;
+  };
+}
+
+/** The same, but as many places past the end as the position is. */
+const placeIn = (plain, position) => placeOf(plain, position) + Math.max(position - plain.length, 0);
+
+/** Pairs of these positions. */
+const pairsOf = (positions) => Array.from({ length: positions.length / 2 }, (_, index) => [positions[2 * index], positions[2 * index + 1]]);
+
+/** A function that converts positions in units of the plain text, which ascend, to bytes, as `placeIn` does. */
+function placesIn(plain) {
+  let [bytes, units] = [0, 0];
+  return (position) => {
+    const place = bytes + placeIn(plain.slice(units, position), position - units);
+    if (position <= plain.length && isWellFormed(plain.slice(units, position))) {
+      [bytes, units] = [place, position];
+    }
+    return place;
   };
 }
 
@@ -309,6 +357,127 @@ export function find(text, pattern) {
   return raw.find(text, pattern) ?? -1;
 }
 
+export function findFrom(text, position, pattern) {
+  textOf('text', text);
+  const place = numberOf('position', position);
+  textOf('pattern', pattern);
+  if (isAscii(text)) {
+    return raw.findFrom(text, place, pattern) ?? -1;
+  }
+  const plain = raw.strip(text);
+  const found = raw.findFrom(text, placeIn(plain, place), pattern);
+  return found === null ? -1 : unitsIn(plain)(found);
+}
+
+export function matches(text, pattern) {
+  const places = raw.matches(textOf('text', text), textOf('pattern', pattern));
+  return pairsOf(isAscii(text) ? places : places.map(unitsIn(raw.strip(text))));
+}
+
+/** The SGR codes that set the attributes, in their order. */
+const CODES = [1, 2, 3, 4, 21, 5, 6, 7, 8, 9, 51, 52, 20, 26, 53, 60, 61, 62, 63, 64, 73, 74];
+
+function byteOf(name, number) {
+  if (numberOf(name, number) > 255) {
+    throw new RangeError(`the ${name} is above 255: ${number}`);
+  }
+  return number;
+}
+
+/** The code of a color: after the code `extended`, or for a name, if there is a first code of names, from that on. */
+function colorCode(name, color, extended, firstOfNames) {
+  if (typeof color === 'string') {
+    const index = indexOf(name, color, COLORS);
+    return firstOfNames === null ? `${extended};5;${index}` : `${firstOfNames + index % 8 + (index >= 8 ? 60 : 0)}`;
+  }
+  if (typeof color === 'object') {
+    const numbers = Array.isArray(color) ? color : [color.red, color.green, color.blue];
+    if (numbers.length !== 3) {
+      throw new TypeError(`the ${name} must have three numbers`);
+    }
+    return `${extended};2;${numbers.map((number) => byteOf(name, number)).join(';')}`;
+  }
+  return `${extended};5;${byteOf(name, color)}`;
+}
+
+/** The codes of a style: those of a string, or of an object by names. */
+function codesOf(style) {
+  if (typeof style === 'string') {
+    if (!/^[0-9:;]*$/.test(style)) {
+      throw new RangeError(`the style must have only digits, ";" and ":": ${style}`);
+    }
+    return style;
+  }
+  if (typeof style !== 'object' || style === null) {
+    throw new TypeError('the style must be a string or an object');
+  }
+  const { foreground = null, background = null, underlineColor = null, font = null, ...attributes } = style;
+  const unknown = Object.keys(attributes).find((name) => !ATTRIBUTES.includes(name));
+  if (unknown !== undefined) {
+    throw new TypeError(`the style has no attribute ${unknown}: they are ${ATTRIBUTES.join(', ')}`);
+  }
+  const codes = CODES.filter((_, index) => attributes[ATTRIBUTES[index]]);
+  if (font !== null) {
+    if (numberOf('font', font) < 10 || font > 19) {
+      throw new RangeError(`the font must be from 10 to 19: ${font}`);
+    }
+    codes.push(font);
+  }
+  const colors = [['foreground', foreground, 38, 30], ['background', background, 48, 40], ['underline color', underlineColor, 58, null]];
+  codes.push(...colors.filter(([, color]) => color !== null).map((given) => colorCode(...given)));
+  return codes.join(';');
+}
+
+export function mark(text, pattern, style) {
+  return raw.mark(textOf('text', text), textOf('pattern', pattern), codesOf(style));
+}
+
+/** Throws for a position inside a character, or past the end, of a plain text. */
+function checkRange(plain, start, end) {
+  if (end > plain.length) {
+    throw new RangeError(`the end, ${end}, is past the end of the plain text, ${plain.length}`);
+  }
+  if (end < start || !isWellFormed(plain.slice(0, start)) || !isWellFormed(plain.slice(0, end))) {
+    throw new RangeError(refusal(plain, start, end));
+  }
+}
+
+export function restyle(text, ranges, style) {
+  textOf('text', text);
+  const codes = codesOf(style);
+  const positions = [];
+  let before = 0;
+  for (const [first, last] of ranges) {
+    const [start, end] = [numberOf('start', first), numberOf('end', last)];
+    if (start < before) {
+      throw new RangeError(`a range begins before the one before it ends: ${start} is below ${before}`);
+    }
+    if (end < start) {
+      throw new RangeError(`the end, ${end}, is before the start, ${start}`);
+    }
+    positions.push(start, end);
+    before = end;
+  }
+  const places = isAscii(text) ? positions : positions.map(placesIn(raw.strip(text)));
+  const restyled = raw.restyle(text, places, codes);
+  if (restyled === null) {
+    pairsOf(positions).forEach(([start, end]) => checkRange(strip(text), start, end));
+  }
+  return restyled;
+}
+
+export function remove(text, start, end) {
+  textOf('text', text);
+  const [first, last] = [numberOf('start', start), numberOf('end', end)];
+  const plain = isAscii(text) ? null : raw.strip(text);
+  const places = plain === null ? [first, last] : [first, last].map((position) => placeIn(plain, position));
+  const removed = raw.remove(text, ...places);
+  if (removed === null) {
+    checkRange(strip(text), first, last);
+  }
+  return removed;
+}
+
 export function split(text, pattern) {
   return raw.split(textOf('text', text), textOf('pattern', pattern));
 }
@@ -384,8 +553,7 @@ export function wrap(text, width, { firstIndent = '', indent = '' } = {}) {
 
 export function lines(text, width) {
   const places = raw.lines(textOf('text', text), numberOf('width', width));
-  const positions = isAscii(text) ? places : places.map(unitsIn(raw.strip(text)));
-  return Array.from({ length: positions.length / 2 }, (_, index) => [positions[2 * index], positions[2 * index + 1]]);
+  return pairsOf(isAscii(text) ? places : places.map(unitsIn(raw.strip(text))));
 }
 
 function* inUnits(lines, unitsOf) {

@@ -52,6 +52,47 @@ export function floorCharBoundary(text: string, index: number): number;
 /** The position of the pattern's first match in the plain text, or -1. A match may run across sequences. */
 export function find(text: string, pattern: string): number;
 
+/** The position of the pattern's first match that doesn't begin before a position, or -1. Past the end of the plain text there is none. */
+export function findFrom(text: string, position: number, pattern: string): number;
+
+/**
+ * Where each match of the pattern begins and ends in the plain text, in order. Matches don't overlap, and may run across sequences. An empty
+ * pattern matches at each beginning of a character and at the end. `restyle` takes the ranges as they are.
+ */
+export function matches(text: string, pattern: string): [number, number][];
+
+/** A style by the SGR codes that set it, as an SGR has them, such as `1;31`; or by names. */
+export type Change = string | StyleNames;
+
+/**
+ * The attributes that are set, colors, and a font by its code, from 10 to 19. A color is by its name, by its number of 256, or by red, green
+ * and blue.
+ */
+export interface StyleNames extends Partial<Record<Attribute, boolean>> {
+  foreground?: Color | [number, number, number];
+  background?: Color | [number, number, number];
+  underlineColor?: Color | [number, number, number];
+  font?: number;
+}
+
+/** The text with each match of a pattern, as `matches` finds them, in a style, as `restyle` makes it. */
+export function mark(text: string, pattern: string, style: Change): string;
+
+/**
+ * The text with SGR codes applied to each character in ranges: pairs of positions in order, which don't overlap. Each character there has its
+ * own style after the codes: so `1` makes it bold and keeps its color, `22` makes it neither bold nor faint, and `0` or no code makes it
+ * plain. Every other character keeps its style; the plain text and every other sequence stay. Throws a RangeError if the style has anything but
+ * digits, `;` and `:`; or if a range begins before the one before it ends, ends below its start or past the end of the plain text, or begins or
+ * ends between the surrogates of a character.
+ */
+export function restyle(text: string, ranges: Iterable<[number, number]>, style: Change): string;
+
+/**
+ * The text without what its plain text has from `start` to `end`. Every sequence stays, so each character that is left keeps its style. Throws
+ * a RangeError if `end` is below `start` or past the end of the plain text, or if a position is between the surrogates of a character.
+ */
+export function remove(text: string, start: number, end: number): string;
+
 /** The parts of the text between the matches of the pattern, each in its styles. */
 export function split(text: string, pattern: string): string[];
 

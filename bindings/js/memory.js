@@ -28,7 +28,7 @@ const BLOCK = 16;
 const STEP = 40;
 const ENTRY = 48;
 export const END = 8;
-export const LINE = 16;
+export const RANGE = 16;
 /** The largest state of a walk, and the largest item. */
 const WALK = 80;
 const ITEM = 48;
@@ -310,6 +310,17 @@ export const roomForEntries = (text, entry) => () => ({ bytes: 0, entries: 64 + 
 export const told = (frame) => frame.word(frame.answer + 8);
 export const written = (frame) => frame.text(0, told(frame));
 
+/** The numbers of entries that are two each. */
+export const ranged = (frame) => Array.from({ length: 2 * told(frame) }, (_, index) => frame.word(frame.entries + index * 8));
+
+/** Numbers as entries have them, in bytes. */
+export function rangesAsBytes(numbers) {
+  const bytes = new Uint8Array(8 * numbers.length);
+  const view = new DataView(bytes.buffer);
+  numbers.forEach((number, index) => view.setBigUint64(8 * index, BigInt(number), true));
+  return bytes;
+}
+
 export function listed(frame) {
   let start = 0;
   const each = frame.each;
@@ -380,10 +391,10 @@ export function iterParts(text, pattern) {
 }
 
 // The attributes by their bits, and the colors that codes name by their last digits, and the same bright.
-const ATTRIBUTES = ['bold', 'faint', 'italic', 'underline', 'doubleUnderline', 'slowBlink', 'rapidBlink', 'inverse', 'hide', 'crossedOut',
+export const ATTRIBUTES = ['bold', 'faint', 'italic', 'underline', 'doubleUnderline', 'slowBlink', 'rapidBlink', 'inverse', 'hide', 'crossedOut',
   'framed', 'encircled', 'fraktur', 'proportionalSpacing', 'overlined', 'ideogramUnderline', 'ideogramDoubleUnderline', 'ideogramOverline',
   'ideogramDoubleOverline', 'ideogramStressMarking', 'superscript', 'subscript'];
-const COLORS = ['black', 'red', 'green', 'yellow', 'blue', 'magenta', 'cyan', 'white',
+export const COLORS = ['black', 'red', 'green', 'yellow', 'blue', 'magenta', 'cyan', 'white',
   'brightBlack', 'brightRed', 'brightGreen', 'brightYellow', 'brightBlue', 'brightMagenta', 'brightCyan', 'brightWhite'];
 const [NO_COLOR, NAMED, FIXED] = [0, 1, 2];
 

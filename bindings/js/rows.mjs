@@ -3,7 +3,7 @@
 /** The calls that aren't here. The positions of an edit count the bytes of what the edit before it made. */
 const LACKING = ['is_char_boundary', 'part_interval', 'edit', 'block_order', 'items'];
 /** How many arguments of a call are positions. */
-const POSITIONS = { cut: 2, left: 1, right: 1, split_at: 1, floor_char_boundary: 1, link_at: 1, column_of: 1 };
+const POSITIONS = { cut: 2, left: 1, right: 1, split_at: 1, floor_char_boundary: 1, link_at: 1, column_of: 1, find_from: 1, remove: 2 };
 
 async function read(url) {
   if (url.protocol === 'file:') {
@@ -51,6 +51,21 @@ export function inUnits(plain, position) {
   return before === null ? null : before.length + Math.max(position - bytes.length, 0);
 }
 
+/** Ranges of bytes as ranges of units; in place of a position inside a character stands null. */
+const rangesOf = (text, fields, ansi) => fields.map((field) => field.split(',').map((position) => inUnits(ansi.strip(text), Number(position))));
+
+/** What a call returns, or null if it throws a RangeError. */
+function orNull(call) {
+  try {
+    return call();
+  } catch (error) {
+    if (!(error instanceof RangeError)) {
+      throw error;
+    }
+    return null;
+  }
+}
+
 /** What the calls of a row return, each with what the row says. */
 function answersOf(ansi, call, found, want, text, more) {
   const [first, second] = more;
@@ -60,6 +75,16 @@ function answersOf(ansi, call, found, want, text, more) {
       return [[ansi.strip(text), want]];
     case 'find':
       return [[ansi.find(text, first), found === null ? -1 : inUnits(ansi.strip(text), Number(want))]];
+    case 'find_from':
+      return [[ansi.findFrom(text, first, second), found === null ? -1 : inUnits(ansi.strip(text), Number(want))]];
+    case 'matches':
+      return [[ansi.matches(text, first), rangesOf(text, more.slice(1), ansi)]];
+    case 'restyle':
+      return [[orNull(() => ansi.restyle(text, rangesOf(text, more.slice(1), ansi), first)), found]];
+    case 'mark':
+      return [[orNull(() => ansi.mark(text, first, second)), found]];
+    case 'remove':
+      return [[orNull(() => ansi.remove(text, first, second)), found]];
     case 'cut':
       return [[ansi.edit(text, [['cut', first, second]]), found]];
     case 'left':
@@ -129,7 +154,7 @@ function answersOf(ansi, call, found, want, text, more) {
     case 'wrap_with':
       return [[ansi.wrap(text, number, { firstIndent: second, indent: more[2] }), more.slice(3)]];
     case 'lines': {
-      const places = more.slice(1).map((line) => line.split(',').map((position) => inUnits(ansi.strip(text), Number(position))));
+      const places = rangesOf(text, more.slice(1), ansi);
       return [[ansi.lines(text, number), places], [[...ansi.iterLines(text, number)], places]];
     }
     case 'link_at':
@@ -150,7 +175,7 @@ function whyNot(ansi, [call, status, want, text, ...more]) {
     return call;
   }
   const given = more.map((each, index) => (index < (POSITIONS[call] ?? 0) ? inUnits(ansi.strip(text), Number(each)) : each));
-  if (given.includes(null)) {
+  if (given.includes(null) || (call === 'restyle' && rangesOf(text, more.slice(1), ansi).flat().includes(null))) {
     return 'a position inside a character';
   }
   for (const pair of answersOf(ansi, call, status === '0' ? want : null, want, text, given)) {

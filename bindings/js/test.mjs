@@ -9,8 +9,8 @@ import { test } from 'node:test';
 import { setFlagsFromString } from 'node:v8';
 import { runInNewContext } from 'node:vm';
 import {
-  OutOfMemoryError, blocks, columnOf, cut, edit, endsWith, expandTabs, find, fit, fitting, floorCharBoundary, hasAny, isSafe, isWhole, iterBlocks, iterLines, iterSplit, lines, linkAt,
-  pad, part, sanitize, sliceColumns, split, splitAt, startsWith, strip, stripPrefix, stripSuffix, trim, truncate, width, wrap,
+  OutOfMemoryError, blocks, columnOf, cut, edit, endsWith, expandTabs, find, findFrom, fit, fitting, floorCharBoundary, hasAny, isSafe, isWhole, iterBlocks, iterLines, iterSplit, lines, linkAt,
+  mark, matches, pad, part, remove, restyle, sanitize, sliceColumns, split, splitAt, startsWith, strip, stripPrefix, stripSuffix, trim, truncate, width, wrap,
 } from './index.js';
 import * as ansiStr from './index.js';
 import { called, written } from './memory.js';
@@ -87,6 +87,65 @@ test('positions count UTF-16 units', () => {
   assert.equal(linkAt('\x1b]8;;u\x07é', 2 ** 60), null);
   assert.equal(cut('abc', 10), '');
   assert.equal(edit('> \x1b[1m😀éa', [['prefix', '> '], ['cut', 2], ['left', 1]]), '\x1b[1mé\x1b[22m');
+});
+
+test('ranges count UTF-16 units, and a bad one is refused', () => {
+  const refused = (message) => ({ name: 'RangeError', message });
+  assert.deepEqual(matches('😀a\x1b[1m😀', '😀'), [[0, 2], [3, 5]]);
+  assert.equal(matches('é'.repeat(1000), '').length, 1001);
+  assert.deepEqual([0, 1, 2, 3, 4, 5, 6, 2 ** 60].map((position) => findFrom('😀a\x1b[1m😀', position, '😀')), [0, 3, 3, 3, -1, -1, -1, -1]);
+  assert.deepEqual([0, 1, 2, 3, 4, 2 ** 60].map((position) => findFrom('😀a', position, '')), [0, 2, 2, 3, -1, -1]);
+  assert.equal(restyle('\x1b[1m😀a\x1b[22m😀', [[0, 2], [3, 5]], '4'), '\x1b[1m\x1b[4m😀\x1b[22m\x1b[24m\x1b[1ma\x1b[22m\x1b[4m😀\x1b[24m');
+  assert.equal(remove('😀a\x1b[1m😀', 2, 3), '😀\x1b[1m😀');
+  for (const plain of ['abc', '😀c']) {
+    const text = `\x1b[3m${plain}`;
+    for (const end of [4, 2 ** 32, Number.MAX_SAFE_INTEGER]) {
+      assert.throws(() => restyle(text, [[0, 2], [3, end]], '1'), refused(`the end, ${end}, is past the end of the plain text, 3`));
+      assert.throws(() => remove(text, 0, end), refused(`the end, ${end}, is past the end of the plain text, 3`));
+    }
+    assert.throws(() => restyle(text, [[0, 2], [1, 3]], '1'), refused('a range begins before the one before it ends: 1 is below 2'));
+    assert.throws(() => restyle(text, [[2, 1]], '1'), refused('the end, 1, is before the start, 2'));
+    assert.throws(() => remove(text, 2, 1), refused('the end, 1, is before the start, 2'));
+    assert.throws(() => restyle(text, [[-1, 1]], '1'), refused('the start is below 0: -1'));
+    assert.throws(() => restyle(text, [[0, 1.5]], '1'), TypeError);
+    assert.throws(() => remove(text, 0), TypeError);
+    assert.throws(() => findFrom(text, -1, 'a'), RangeError);
+    assert.throws(() => findFrom(text, 0, '\ud800'), /lone surrogate/);
+    assert.throws(() => matches(text, null), /must be a string/);
+  }
+  for (const range of [[0, 1], [1, 2], [1, 1]]) {
+    assert.throws(() => restyle('a😀'.slice(1), [range], '1'), refused('the position 1 is inside a character'));
+    assert.throws(() => remove('\x1b[1m😀', ...range), refused('the position 1 is inside a character'));
+  }
+});
+
+test('a style is codes or names', () => {
+  const codesOf = (style) => mark('x', 'x', style).match(/^\x1b\[(.*?)m/)[1];
+  assert.equal(codesOf('1;31'), '1;31');
+  assert.equal(codesOf({ bold: true, foreground: 'red' }), '1;31');
+  assert.equal(codesOf({ faint: false, background: 208, font: 11 }), '11;48;5;208');
+  assert.equal(codesOf({ underline: true, underlineColor: [97, 175, 239] }), '4;58;2;97;175;239');
+  assert.equal(codesOf({ foreground: { red: 0, green: 1, blue: 255 }, underlineColor: 'brightWhite' }), '38;2;0;1;255;58;5;15');
+  assert.equal(codesOf({}), '');
+  const all = ['bold', 'faint', 'italic', 'underline', 'doubleUnderline', 'slowBlink', 'rapidBlink', 'inverse', 'hide', 'crossedOut', 'framed', 'encircled',
+    'fraktur', 'proportionalSpacing', 'overlined', 'ideogramUnderline', 'ideogramDoubleUnderline', 'ideogramOverline', 'ideogramDoubleOverline',
+    'ideogramStressMarking', 'superscript', 'subscript'];
+  for (const name of all) {
+    assert.deepEqual(blocks(mark('x', 'x', { [name]: true }))[0].style.attributes, [name]);
+  }
+  for (const color of ['black', 'white', 'brightBlack', 'brightCyan', 0, 255, { red: 1, green: 2, blue: 3 }]) {
+    const [{ style }] = blocks(mark('x', 'x', { foreground: color, background: color }));
+    assert.deepEqual([style.foreground, style.background], [color, color]);
+  }
+  for (const wrong of ['1m', 'm', ' 1', '1,2', '\x1b[1m', '１', '1\n']) {
+    assert.throws(() => mark('x', 'y', wrong), { name: 'RangeError', message: `the style must have only digits, ";" and ":": ${wrong}` });
+    assert.throws(() => restyle('x', [], wrong), RangeError);
+  }
+  for (const [wrong, message] of [[null, /a string or an object/], [1, /a string or an object/], [{ bald: true }, /no attribute bald: they are bold/],
+    [{ foreground: 'purple' }, /one of black, red/], [{ font: 20 }, /from 10 to 19/], [{ font: 9 }, /from 10 to 19/], [{ background: 256 }, /above 255/],
+    [{ background: [0, 0] }, /three numbers/], [{ foreground: { red: 1, green: 2 } }, /whole number/], [{ underlineColor: -1 }, /below 0/]]) {
+    assert.throws(() => mark('x', 'x', wrong), message);
+  }
 });
 
 test('a position past the end is the end, and an end below its start is refused, however large', () => {
@@ -221,7 +280,7 @@ test('memory is asked for and given back, and lack of it leaves the module fit f
   };
   try {
     const sanitizeBytes = (text) => sanitize(Buffer.from(text));
-    for (const call of [strip, blocks, (text) => split(text, ' '), (text) => wrap(text, 5), sanitizeBytes, (text) => [...iterLines(text, 5)],
+    for (const call of [strip, blocks, (text) => mark(text, 'red', '1'), (text) => matches(text, 'red'), (text) => split(text, ' '), (text) => wrap(text, 5), sanitizeBytes, (text) => [...iterLines(text, 5)],
       (text) => [...iterSplit(text, ' ')], (text) => [...iterBlocks(text)]]) {
       assert.throws(() => call(long), OutOfMemoryError);
       assert.equal(strip('\x1b[1ma'), 'a');

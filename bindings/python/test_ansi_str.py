@@ -25,7 +25,7 @@ LACKING = [
     "is_char_boundary", "floor_char_boundary", "part_interval", "edit", "block_order", "items",
 ]
 # how many arguments of a call are positions
-POSITIONS = {"cut": 2, "left": 1, "right": 1, "split_at": 1, "link_at": 1, "column_of": 1}
+POSITIONS = {"cut": 2, "left": 1, "right": 1, "split_at": 1, "link_at": 1, "column_of": 1, "find_from": 1, "remove": 2}
 
 
 def block_at(text, index, of):
@@ -35,6 +35,14 @@ def block_at(text, index, of):
 
 def style_after(code):
     return ansi_str.blocks("\x1b[%sma" % code)[0].style
+
+
+def or_none(call, *arguments):
+    """What a call returns, or None if it raises a ValueError."""
+    try:
+        return call(*arguments)
+    except ValueError:
+        return None
 
 
 # what each other call of a row returns
@@ -79,6 +87,11 @@ MADE = {
     "sanitize": lambda text, rest, links: [ansi_str.sanitize(text, show=rest == "Show", links=links == "Keep")],
     "sanitize_bytes": lambda data, rest, links: [ansi_str.sanitize(text, show=rest == "Show", links=links == "Keep")
                                                  for text in (data, data.decode("utf-8", "surrogateescape"))],
+    "matches": lambda text, pattern, *_: [ansi_str.matches(text, pattern)],
+    "find_from": lambda text, position, pattern: [ansi_str.find_from(text, position, pattern)],
+    "restyle": lambda text, style, *ranges: [or_none(ansi_str.restyle, text, ranges, style), or_none(ansi_str.restyle, text, iter(ranges), style)],
+    "mark": lambda text, pattern, style: [or_none(ansi_str.mark, text, pattern, style)],
+    "remove": lambda text, start, end: [or_none(ansi_str.remove, text, start, end)],
     "is_safe": lambda text, links: [ansi_str.is_safe(text, links=links == "Keep")],
 }
 
@@ -113,7 +126,7 @@ def in_characters(plain, position):
 
 def said(call, status, want, text, more):
     """The result that a row has, as the call returns it."""
-    if call in ("find", "fitting"):
+    if call in ("find", "find_from", "fitting"):
         return want and in_characters(ansi_str.strip(text), int(want))
     if call in ("starts_with", "ends_with", "has_any", "is_whole", "is_safe"):
         return status == "0"
@@ -123,7 +136,7 @@ def said(call, status, want, text, more):
         return more[1:]
     if call == "wrap_with":
         return more[3:]
-    if call == "lines":
+    if call in ("lines", "matches"):
         plain = ansi_str.strip(text)
         return [tuple(in_characters(plain, int(position)) for position in line.split(",")) for line in more[1:]]
     if call == "blocks":
@@ -140,6 +153,10 @@ class Rows(unittest.TestCase):
             return call
         placed = POSITIONS.get(call, 0)
         positions = [in_characters(ansi_str.strip(text), int(position)) for position in more[:placed]]
+        if call == "restyle":
+            ranges = [tuple(in_characters(ansi_str.strip(text), int(position)) for position in each.split(",")) for each in more[1:]]
+            positions += [None for each in ranges if None in each]
+            more = [more[0], *ranges]
         if None in positions:
             return "a position inside a character"
         wanted = said(call, status, want, text, more)
@@ -174,8 +191,9 @@ class Rows(unittest.TestCase):
 CALLS = {"strip": [], "cut": [0], "left": [0], "right": [0], "part": [",", 0], "strip_prefix": [""], "strip_suffix": [""],
          "trim": [], "width": [], "fitting": [1], "column_of": [0], "truncate": [1], "pad": [1], "fit": [1], "slice_columns": [0],
          "expand_tabs": [8], "wrap": [1], "lines": [1], "iter_lines": [1], "find": [""], "starts_with": [""], "ends_with": [""], "has_any": [], "is_whole": [], "split": [","],
-         "iter_split": [","], "blocks": [], "iter_blocks": [], "edit": [[]], "sanitize": [], "is_safe": [], "link_at": [0]}
-PATTERNED = ["part", "strip_prefix", "strip_suffix", "find", "starts_with", "ends_with", "split", "iter_split"]
+         "iter_split": [","], "blocks": [], "iter_blocks": [], "edit": [[]], "sanitize": [], "is_safe": [], "link_at": [0],
+         "matches": ["a"], "find_from": [0, "a"], "restyle": [[(0, 0)], "1"], "mark": ["a", "1"], "remove": [0, 0]}
+PATTERNED = ["matches", "mark", "part", "strip_prefix", "strip_suffix", "find", "starts_with", "ends_with", "split", "iter_split"]
 HUGE = [2**31, 2**63 - 1, 2**63, 2**64 - 1, 2**64, 2**64 + 1, 2**200]
 
 
@@ -186,7 +204,7 @@ class Arguments(unittest.TestCase):
         self.assertIn(words, str(caught.exception))
 
     def test_all(self):
-        functions = {name for name in ansi_str.__all__ if name[0].islower()}
+        functions = {name for name in ansi_str.__all__ if name[0].islower()} - {"codes"}
         self.assertEqual(functions, set(CALLS))
         for name in ansi_str.__all__ + ["__version__"]:
             getattr(ansi_str, name)
@@ -226,8 +244,11 @@ class Arguments(unittest.TestCase):
                 # (also after an edit that is refused)
                 self.refused(kind, "end " + words, ansi_str.edit, text, [ansi_str.Prefix("z"), ansi_str.Cut(0, wrong)])
                 self.refused(kind, "index " + words, ansi_str.part, text, ",", wrong)
-                for call in (ansi_str.link_at, ansi_str.column_of):
+                for call in (ansi_str.link_at, ansi_str.column_of, lambda text, position: ansi_str.find_from(text, position, "a")):
                     self.refused(kind, "position " + words, call, text, wrong)
+                for call in (ansi_str.remove, lambda *ends: ansi_str.restyle(text, [ends[1:]], "1")):
+                    self.refused(kind, "start " + words, call, text, wrong, 1)
+                    self.refused(kind, "end " + words, call, text, 0, wrong)
                 for call in (ansi_str.fitting, ansi_str.truncate, ansi_str.pad, ansi_str.fit, ansi_str.wrap, ansi_str.lines):
                     self.refused(kind, "width " + words, call, text, wrong)
                 self.refused(kind, "start " + words, ansi_str.slice_columns, text, wrong)
@@ -246,6 +267,51 @@ class Arguments(unittest.TestCase):
             for call in (ansi_str.pad, ansi_str.fit):
                 self.refused(ValueError, "alignment must be one of left, center, right", call, "abc", 1, wrong)
             self.refused(ValueError, "side must be one of end, start, middle", ansi_str.truncate, "abc", 1, "", wrong)
+
+    def test_a_range_or_a_style_that_is_none(self):
+        for text in ("abc", "\x1b[1m\xe9b\xe7"):
+            self.refused(ValueError, "a range begins before the one before it ends: 1 is below 2", ansi_str.restyle, text, [(0, 2), (1, 3)], "1")
+            self.refused(ValueError, "the end lies before the start: 0 is below 1", ansi_str.restyle, text, [(1, 0)], "1")
+            for huge in [4, *HUGE]:
+                self.refused(ValueError, "a range ends past the end of the plain text: %d" % huge, ansi_str.restyle, text, [(0, huge)], "1")
+                self.refused(ValueError, "no range of the plain text: 0 up to %d" % huge, ansi_str.remove, text, 0, huge)
+                self.refused(ValueError, "no range of the plain text: %d up to 0" % huge, ansi_str.remove, text, huge, 0)
+                self.assertIsNone(ansi_str.find_from(text, huge, ""))
+            for wrong in ([1], [(1,)], [(0, 1, 2)], [None], None, 1):
+                with self.assertRaises((TypeError, ValueError)):
+                    ansi_str.restyle(text, wrong, "1")
+            for call in (lambda style: ansi_str.mark(text, "z", style), lambda style: ansi_str.restyle(text, [], style)):
+                for wrong in ("1m", "m", " 1", "1,2", "\x1b[1m", "\uff11"):
+                    self.refused(ValueError, "style must have only digits, ';' and ':', not " + repr(wrong), call, wrong)
+                self.refused(TypeError, "style must be a str, not int", call, 1)
+                self.refused(UnicodeEncodeError, "style has a lone surrogate", call, "\ud800")
+                self.assertEqual(call(""), text)
+        self.assertEqual(ansi_str.restyle("\x1b[1m\xe9b\xe7", ((0, 1), (2, 3)), "4"), "\x1b[1m\x1b[4m\xe9\x1b[22m\x1b[24m\x1b[1mb\x1b[4m\xe7\x1b[22m\x1b[24m\x1b[1m")
+        self.assertEqual(ansi_str.matches("\xe9b\x1b[1m\xe9", "\xe9"), [(0, 1), (2, 3)])
+        self.assertEqual(ansi_str.find_from("\xe9b\x1b[1m\xe9", 1, "\xe9"), 2)
+        self.assertEqual(ansi_str.remove("\xe9b\x1b[1m\xe9", 1, 2), "\xe9\x1b[1m\xe9")
+        self.assertEqual(len(ansi_str.matches("\xe9" * 1000, "")), 1001)
+
+    def test_codes(self):
+        for code, name in zip((1, 2, 3, 4, 21, 5, 6, 7, 8, 9, 51, 52, 20, 26, 53, 60, 61, 62, 63, 64, 73, 74), ansi_str.ATTRIBUTES):
+            self.assertEqual(ansi_str.codes(**{name: True}), str(code))
+            self.assertEqual(style_after(ansi_str.codes(**{name: True})).attributes, {name})
+        for index, name in enumerate(ansi_str.COLORS):
+            for word in (name, name.lower(), re.sub("(?<=.)(?=[A-Z])", "_", name).lower()):
+                self.assertEqual(style_after(ansi_str.codes(foreground=word))[1:3], (name, None))
+                self.assertEqual(style_after(ansi_str.codes(background=word))[1:3], (None, name))
+                self.assertEqual(ansi_str.codes(underline_color=word), "58;5;%d" % index)
+        for color in (0, 255, (0, 1, 255)):
+            self.assertEqual(style_after(ansi_str.codes(foreground=color, background=color))[1:3], (color, color))
+        self.assertEqual(ansi_str.codes(underline_color=255, font=11, bold=True, faint=False), "1;11;58;5;255")
+        self.assertEqual([ansi_str.codes(), ansi_str.codes(bold=False), ansi_str.codes(font=10)], ["", "", "10"])
+        self.refused(TypeError, "there is no attribute 'bald'", lambda: ansi_str.codes(bald=True))
+        self.refused(ValueError, "font must be from 10 to 19, not 20", lambda: ansi_str.codes(font=20))
+        self.refused(ValueError, "foreground must be one of black, red", lambda: ansi_str.codes(foreground="purple"))
+        self.refused(ValueError, "foreground is above 255: 256", lambda: ansi_str.codes(foreground=256))
+        self.refused(ValueError, "background is below 0: -1", lambda: ansi_str.codes(background=(0, -1, 0)))
+        self.refused(ValueError, "background must have three numbers, not 2", lambda: ansi_str.codes(background=(0, 0)))
+        self.refused(TypeError, "underline_color must be an int, not float", lambda: ansi_str.codes(underline_color=1.0))
 
     def test_bytes_are_made_safe(self):
         for data in (b"caf\xe9\x1b[2J", "caf\u00e9\x1b[2J".encode(), b"", b"\xff" * 100000, bytes(range(256))):
@@ -410,9 +476,11 @@ class Private(unittest.TestCase):
     WRONG = {
         "bytes": [(b"\xff", ValueError)] + [(wrong, TypeError) for wrong in TYPES + [1, ()]],
         "number": [(-1, ValueError), (-2**64, ValueError)] + [(wrong, TypeError) for wrong in TYPES + [b"a", ()]],
-        "kind": [(-1, ValueError), (15, ValueError), (2**31 - 1, ValueError), (2**31, OverflowError), (-2**200, OverflowError)]
+        "kind": [(-1, ValueError), (16, ValueError), (2**31 - 1, ValueError), (2**31, OverflowError), (-2**200, OverflowError)]
                 + [(wrong, TypeError) for wrong in TYPES + [b"a", ()]],
         "steps": [(wrong, TypeError) for wrong in TYPES + [b"a", 1, (1,), ((),), ((0, 0, 0),), ((0, 0, 0, b"", 0),), ([0, 0, 0, b""],)]],
+        "ranges": [(wrong, TypeError) for wrong in TYPES + [b"a", 1, (1,), ((),), ((0,),), ((0, 1, 2),), ([0, 1],), ((None, 1),), ((0, "a"),)]]
+                  + [(wrong, ValueError) for wrong in (((-1, 1),), ((0, -1),), ((1, 0),), ((0, 1), (0, 1)))],
         "bool": [],
     }
     # good arguments of each call
@@ -423,6 +491,9 @@ class Private(unittest.TestCase):
         "strip": [("bytes", b"a")],
         "wrap": [("bytes", b"a"), ("number", 1), ("bytes", b"a"), ("bytes", b"a")],
         "walk_lines": [("bytes", b"a"), ("bool", True), ("number", 1)],
+        "mark": [("bytes", b"a"), ("bytes", b"a"), ("bytes", b"1")],
+        "restyle": [("bytes", b"a"), ("bool", True), ("ranges", ((0, 1),)), ("bytes", b"1")],
+        "matches": [("bytes", b"a"), ("bool", True), ("bytes", b"a")],
     }
 
     def refused(self, call, given):
@@ -440,9 +511,9 @@ class Private(unittest.TestCase):
         for name, given in self.GOOD.items():
             self.refused(getattr(ansi_str._library, name), given)
         edit = ansi_str._library.edit
-        for kind in range(15):
+        for kind in range(16):
             self.refused(lambda *step: edit(b"a", True, (step + (b"",),)), [("kind", kind), ("number", 0), ("number", 1)])
-        # (the last six kinds don't read their pattern)
+        # (the last seven kinds don't read their pattern)
         for kind in range(9):
             self.refused(lambda pattern: edit(b"a", True, ((kind, 0, 1, pattern),)), [("bytes", b"")])
 
@@ -459,7 +530,7 @@ class Private(unittest.TestCase):
         for huge in HUGE:
             self.assertEqual(edit(b"abc", True, ((0, 0, huge, b""),)), "abc")
             self.assertEqual(edit("\xe9".encode(), False, ((0, 0, huge, b""), (1, huge, huge, b""))), "\xe9")
-            self.assertEqual(tell(6, b"abc", True, b"", huge), 3)
+            self.assertEqual(tell(7, b"abc", True, b"", huge), 3)
             self.assertEqual(ansi_str._library.wrap(b"abc", huge, b"", b""), ["abc"])
             for step in (7, 5, huge), (8, 5, huge), (9, 5, huge), (10, 0, huge), (10, huge, 0):
                 with self.assertRaises(ValueError):

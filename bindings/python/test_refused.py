@@ -10,11 +10,11 @@ from ansi_str import _library
 ALLOCATOR = ctypes.CDLL(None)
 ALLOCATOR.held.restype = ctypes.c_long
 TEXTS = ["", "red, fox", "\x1b[1;31mred\x1b]0;t\x07, \x1b[4m\tfox\x1b[0m", "\x1b[1mr\u00e9d\x1b[0m, \u65e5\x1b[31m", "\x1b[1m,\x1b[3ma" * 40]
-CUT, LEFT, RIGHT, PART, PREFIX, SUFFIX, TRIM, TRUNCATE, FIT, PAD, SANITIZE, LINK_AT, SLICE, EXPAND_TABS = range(14)
+CUT, LEFT, RIGHT, PART, PREFIX, SUFFIX, TRIM, TRUNCATE, FIT, PAD, SANITIZE, LINK_AT, SLICE, EXPAND_TABS, REMOVE = range(15)
 STEPS = [(CUT, 1, 4, b""), (LEFT, 3, 0, b""), (RIGHT, 3, 0, b""), (PART, 1, 0, b","), (PREFIX, 0, 0, b"r"), (SUFFIX, 0, 0, b"x"),
          (TRIM, 0, 0, b""), (TRUNCATE, 3, 0, b"..."), (FIT, 3, 0, b"..."), (PAD, 300, 1, b""), (SANITIZE, 1, 0, b""), (LINK_AT, 1, 0, b""),
-         (SLICE, 1, 5, b""), (EXPAND_TABS, 4, 0, b"")]
-WHAT = range(9)
+         (SLICE, 1, 5, b""), (EXPAND_TABS, 4, 0, b""), (REMOVE, 1, 3, b"")]
+WHAT = range(10)
 # so often each request is refused, and what the interpreter may keep for later calls
 TIMES, KEPT = 40, 20
 
@@ -31,6 +31,11 @@ def calls():
         yield lambda: _library.wrap(data, 4, b"", b"")
         yield lambda: _library.wrap(data, 4, b"* ", b"  ")
         yield lambda: list(_library.walk_lines(data, is_ascii, 1))
+        yield lambda: _library.mark(data, b"e", b"1")
+        for ranges in ((), ((0, 0),), ((0, 1), (1, 3)), ((2, 900),)):
+            yield lambda: _library.restyle(data, is_ascii, ranges, b"1")
+        for pattern in (b"", b",", b"z"):
+            yield lambda: _library.matches(data, is_ascii, pattern)
         for what in WHAT:
             yield lambda: _library.tell(what, data, is_ascii, b"o", 1)
         for pattern in (b"", b",", b"fox"):

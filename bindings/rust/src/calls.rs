@@ -137,6 +137,14 @@ struct RawLine {
     end: usize,
 }
 
+/// A range of a plain text.
+#[repr(C)]
+#[derive(Debug, Clone, Copy)]
+pub(crate) struct RawRange {
+    pub(crate) start: usize,
+    pub(crate) end: usize,
+}
+
 /// An edit by the number of its kind, its positions or its index, and its pattern.
 #[repr(C)]
 struct RawEdit {
@@ -214,6 +222,43 @@ extern "C" {
     ) -> Answer;
     fn ansi_str_raw_is_whole(t: Bytes, n: usize) -> Answer;
     fn ansi_str_raw_find_unchecked(t: Bytes, n: usize, p: Bytes, k: usize) -> Answer;
+    fn ansi_str_raw_find_from(t: Bytes, n: usize, position: usize, p: Bytes, k: usize) -> Answer;
+    fn ansi_str_raw_matches(
+        t: Bytes,
+        n: usize,
+        p: Bytes,
+        k: usize,
+        ranges: *mut RawRange,
+        most: usize,
+    ) -> Answers;
+    fn ansi_str_raw_restyle(
+        t: Bytes,
+        n: usize,
+        ranges: *const RawRange,
+        count: usize,
+        codes: Bytes,
+        codes_len: usize,
+        b: Room,
+        m: usize,
+    ) -> Answer;
+    fn ansi_str_raw_mark(
+        t: Bytes,
+        n: usize,
+        p: Bytes,
+        k: usize,
+        codes: Bytes,
+        codes_len: usize,
+        b: Room,
+        m: usize,
+    ) -> Answer;
+    fn ansi_str_raw_remove(
+        t: Bytes,
+        n: usize,
+        start: usize,
+        end: usize,
+        b: Room,
+        m: usize,
+    ) -> Answer;
     fn ansi_str_raw_starts_with_unchecked(t: Bytes, n: usize, p: Bytes, k: usize) -> Answer;
     fn ansi_str_raw_ends_with_unchecked(t: Bytes, n: usize, p: Bytes, k: usize) -> Answer;
     fn ansi_str_raw_is_char_boundary_unchecked(t: Bytes, n: usize, index: usize) -> Answer;
@@ -532,6 +577,69 @@ pub(crate) fn is_whole(text: &str) -> bool {
 pub(crate) fn find(text: &str, pat: &str) -> Option<usize> {
     let answer = tell_of(ansi_str_raw_find_unchecked, text, pat);
     outcome(answer.status, answer.len).ok()
+}
+
+pub(crate) fn find_from(text: &str, position: usize, pat: &str) -> Option<usize> {
+    let (t, n, p, k) = (text.as_ptr(), text.len(), pat.as_ptr(), pat.len());
+    // SAFETY: two `str`s; any number may be a position
+    let answer = unsafe { ansi_str_raw_find_from(t, n, position, p, k) };
+    outcome(answer.status, answer.len).ok()
+}
+
+/// How many matches have room at first.
+const FEW: usize = 16;
+
+/// Where each match of a pattern begins and ends.
+pub(crate) fn matches(text: &str, pat: &str) -> Vec<RawRange> {
+    let (t, n, p, k) = (text.as_ptr(), text.len(), pat.as_ptr(), pat.len());
+    let mut ranges = Vec::with_capacity(FEW);
+    loop {
+        let free: &mut [MaybeUninit<RawRange>] = ranges.spare_capacity_mut();
+        let (places, most) = (free.as_mut_ptr().cast(), free.len());
+        // SAFETY: two `str`s, and the pointer and the length of a vector's spare room
+        let answer = unsafe { ansi_str_raw_matches(t, n, p, k, places, most) };
+        if answer.status == TOO_SMALL {
+            ranges.reserve_exact(answer.count);
+        } else {
+            // SAFETY: the call has returned `OK`, the one other status for texts that are UTF-8, and set this many of them
+            unsafe { ranges.set_len(answer.count) };
+            return ranges;
+        }
+    }
+}
+
+/// The text with codes applied in ranges, or `None` if one of them is refused.
+pub(crate) fn restyle(text: &str, ranges: &[Range<usize>], codes: &str) -> Option<String> {
+    let raw_of = |range: &Range<usize>| RawRange {
+        start: range.start,
+        end: range.end,
+    };
+    let raw: Vec<RawRange> = ranges.iter().map(raw_of).collect();
+    let (t, n, c, j) = (text.as_ptr(), text.len(), codes.as_ptr(), codes.len());
+    written(n + LONGEST_START_AND_CLOSE, |b, m| {
+        // SAFETY: two `str`s, a vector's ranges, and the room; any numbers may be a range
+        unsafe { ansi_str_raw_restyle(t, n, raw.as_ptr(), raw.len(), c, j, b, m) }
+    })
+    .ok()
+}
+
+/// The text with codes applied to each match, or `None` if they are refused.
+pub(crate) fn mark(text: &str, pat: &str, codes: &str) -> Option<String> {
+    let (t, n, p, k) = (text.as_ptr(), text.len(), pat.as_ptr(), pat.len());
+    written(n + LONGEST_START_AND_CLOSE, |b, m| {
+        // SAFETY: three `str`s, and the room
+        unsafe { ansi_str_raw_mark(t, n, p, k, codes.as_ptr(), codes.len(), b, m) }
+    })
+    .ok()
+}
+
+/// The text without a range, or `None` if that is refused.
+pub(crate) fn remove(text: &str, start: usize, end: usize) -> Option<String> {
+    written(text.len(), |b, m| {
+        // SAFETY: a `str`, and the room; any numbers may be a range
+        unsafe { ansi_str_raw_remove(text.as_ptr(), text.len(), start, end, b, m) }
+    })
+    .ok()
 }
 
 pub(crate) fn starts_with(text: &str, pat: &str) -> bool {

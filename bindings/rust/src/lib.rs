@@ -6,7 +6,7 @@
 //! from that crate. Positions and lengths count bytes of the plain text, which is the text without its sequences. A
 //! position past its end counts as the end.
 //!
-//! Results from a text without ESC are borrowed, and std computes them, except in [`columns`] and [`safe`]. Results from any
+//! Results from a text without ESC are borrowed, and std computes them, except in [`columns`], [`restyle`] and [`safe`]. Results from any
 //! other text are owned, except for an empty prefix or suffix, and for parts and blocks that occur unchanged in the text. Out
 //! of memory panics, as in std.
 //!
@@ -25,6 +25,7 @@ mod blocks;
 mod calls;
 pub mod columns;
 mod edits;
+pub mod restyle;
 pub mod safe;
 mod style;
 

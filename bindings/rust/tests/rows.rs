@@ -1,6 +1,7 @@
 //! Passes the rows of texts and results, which `rows/README.md` describes.
 
 use ansi_str::columns::{Alignment, AnsiColumns, Side, Truncation, Wrap};
+use ansi_str::restyle::AnsiRestyle;
 use ansi_str::safe::{sanitize_bytes, AnsiSafe, Links, Policy, Rest};
 use ansi_str::{edit, get_blocks, is_whole, part, AnsiBlock, AnsiStr, Color, Edit};
 use std::borrow::Cow;
@@ -143,6 +144,12 @@ fn links_of(word: &str) -> Links {
     }
 }
 
+/// A range of a row: two numbers with a comma between.
+fn range_of(field: &String) -> Range<usize> {
+    let (start, end) = field.split_once(',').expect("a range");
+    number(start)..number(end)
+}
+
 /// An edit of a row: its kind, two numbers and a pattern. `None` if it has none of the kinds that there are.
 fn edit_of(fields: &[String]) -> Option<Edit<'_>> {
     let (first, second, pat) = (number(&fields[1]), number(&fields[2]), &*fields[3]);
@@ -257,6 +264,17 @@ fn pass(call: &str, status: &str, want: &str, text: &str, more: &[String]) -> Op
             is_number(lines.len()) && lines.iter().map(interval_of).eq(more[1..].iter().cloned())
         }
         "link_at" => text.ansi_link_at(position(0)).as_deref() == answer,
+        "matches" => {
+            let matches = text.ansi_matches(&more[0]);
+            is_number(matches.len()) && matches.eq(more[1..].iter().map(range_of))
+        }
+        "find_from" => text.ansi_find_from(position(0), &more[1]) == answer.map(number),
+        "restyle" => {
+            let ranges: Vec<_> = more[1..].iter().map(range_of).collect();
+            is(text.ansi_restyle(&ranges, &more[0]))
+        }
+        "mark" => is(text.ansi_mark(&more[0], &more[1])),
+        "remove" => is(text.ansi_remove(position(0)..position(1))),
         "sanitize" => {
             let (rest, links) = (rest_of(&more[0]), links_of(&more[1]));
             is(Some(text.ansi_sanitize(Policy { rest, links })))
@@ -328,6 +346,23 @@ fn what_is_a_front_of_the_text_is_a_borrow() {
     assert!(matches!("abc".ansi_slice(..=1), Cow::Borrowed("ab")));
     assert!(matches!("abc".ansi_slice(1..), Cow::Owned(_)));
     assert!(matches!("abc".ansi_expand_tabs(8), Cow::Borrowed("abc")));
+}
+
+#[test]
+fn what_no_range_changes_is_a_borrow() {
+    for text in ["abc", "\x1b[1mabc\x1b[0m"] {
+        let restyled = |start, end| text.ansi_restyle(&[0..0, start..end], "1");
+        assert!(matches!(restyled(3, 3), Some(Cow::Borrowed(_))));
+        assert!(matches!(restyled(1, 3), Some(Cow::Owned(_))));
+        assert!(matches!(text.ansi_mark("d", "1"), Some(Cow::Borrowed(_))));
+        assert!(matches!(text.ansi_mark("", "1"), Some(Cow::Borrowed(_))));
+        assert!(matches!(text.ansi_mark("a", ""), Some(Cow::Owned(_))));
+        assert!(matches!(text.ansi_remove(3..3), Some(Cow::Borrowed(_))));
+        assert!(matches!(text.ansi_remove(0..1), Some(Cow::Owned(_))));
+        assert_eq!(text.ansi_matches("").len(), 4);
+    }
+    let many = "\x1b[1mab".repeat(1000);
+    assert_eq!(many.ansi_matches("ab").nth(999), Some(1998..2000));
 }
 
 #[test]

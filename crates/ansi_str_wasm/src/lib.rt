@@ -7,6 +7,7 @@
 pub mod columns;
 pub mod lists;
 mod memory;
+pub mod restyles;
 pub mod safe;
 pub mod searches;
 pub mod texts;

@@ -3,7 +3,7 @@
 A proved library does the work, in the C module beside this file; the environment variable ANSI_STR_SO can name another file.
 
 The plain text is the text without its sequences. A position counts characters (code points) of the plain text. A position past
-the end, however large, counts as the end.
+the end, however large, counts as the end; only `restyle` and `remove` refuse it, and `find_from` finds nothing there.
 
 Each call raises
 - a TypeError that names the argument, if a text or a pattern isn't a `str`;
@@ -29,6 +29,9 @@ The calls, each of which has an example in its own help, such as `help(ansi_str.
     lines(text, width)                 sanitize(text, *, show=False, links=False)
     iter_lines(text, width)            slice_columns(text, start=0, end=None)
     expand_tabs(text, stop=8)          column_of(text, position)
+    matches(text, pattern)             find_from(text, position, pattern)
+    mark(text, pattern, style)         restyle(text, ranges, style)
+    remove(text, start, end)           codes(*, foreground=None, background=None, bold=True, ...)
 
 The classes, each with a help of its own: `Block` and `Style`, which `blocks` returns, and the edits `Cut`, `Left`, `Right`, `Part`,
 `Prefix`, `Suffix` and `Trim`. `import *` leaves them out.
@@ -56,7 +59,8 @@ __all__ = [
     "strip", "cut", "left", "right", "part", "strip_prefix", "strip_suffix", "trim",
     "width", "fitting", "column_of", "truncate", "pad", "fit", "slice_columns", "expand_tabs", "wrap", "lines", "iter_lines", "link_at",
     "ALIGNMENTS", "SIDES",
-    "find", "starts_with", "ends_with", "has_any", "is_whole",
+    "find", "find_from", "matches", "starts_with", "ends_with", "has_any", "is_whole",
+    "mark", "restyle", "remove", "codes",
     "sanitize", "is_safe",
     "split", "iter_split", "blocks", "iter_blocks", "ATTRIBUTES", "COLORS",
     "edit",
@@ -72,6 +76,8 @@ COLORS = ("Black", "Red", "Green", "Yellow", "Blue", "Magenta", "Cyan", "White",
 ALIGNMENTS = ("left", "center", "right")
 SIDES = ("end", "start", "middle")
 _NO_COLOR, _NAMED, _FIXED = 0, 1, 2
+# the SGR codes that set the attributes
+_CODES = (1, 2, 3, 4, 21, 5, 6, 7, 8, 9, 51, 52, 20, 26, 53, 60, 61, 62, 63, 64, 73, 74)
 
 if sys.version_info >= (3, 8):
     from typing import Literal
@@ -84,9 +90,10 @@ else:
 _STYLE = struct.Struct("=I4B4B")
 
 # the kinds of edits, the last position, and the questions about a text
-_CUT, _LEFT, _RIGHT, _PART, _PREFIX, _SUFFIX, _TRIM, _TRUNCATE, _FIT, _PAD, _SANITIZE, _LINK_AT, _SLICE, _EXPAND_TABS = range(14)
+(_CUT, _LEFT, _RIGHT, _PART, _PREFIX, _SUFFIX, _TRIM, _TRUNCATE, _FIT, _PAD, _SANITIZE, _LINK_AT, _SLICE, _EXPAND_TABS,
+ _REMOVE) = range(15)
 _LAST = sys.maxsize
-_STARTS_WITH, _ENDS_WITH, _HAS_ANY, _IS_WHOLE, _IS_SAFE, _FIND, _FITTING, _WIDTH, _COLUMN_OF = range(9)
+_STARTS_WITH, _ENDS_WITH, _HAS_ANY, _IS_WHOLE, _IS_SAFE, _FIND, _FIND_FROM, _FITTING, _WIDTH, _COLUMN_OF = range(10)
 
 
 def _loaded() -> Any:
@@ -236,6 +243,26 @@ def find(text: str, pattern: str) -> Optional[int]:
     1
     """
     return _told(_FIND, text, pattern)  # type: ignore[no-any-return]
+
+
+def find_from(text: str, position: int, pattern: str) -> Optional[int]:
+    """The position of the pattern's first match in the plain text that doesn't begin before a position, or None.
+
+    >>> find_from("ab\\x1b[1mab", 1, "ab"), find_from("ab\\x1b[1mab", 3, "ab")
+    (2, None)
+    """
+    return _told(_FIND_FROM, text, pattern, _position("position", position))  # type: ignore[no-any-return]
+
+
+def matches(text: str, pattern: str) -> List[Tuple[int, int]]:
+    """Where each match of a pattern begins and ends in the plain text, in order. Matches don't overlap, and may run across
+    sequences. An empty pattern matches between any two characters and at both ends. `restyle` takes the ranges as they are.
+
+    >>> matches("a\\x1b[1mba\\x1b[0mb", "ab")
+    [(0, 2), (2, 4)]
+    """
+    data = _utf8("text", text)
+    return _library.matches(data, len(data) == str.__len__(text), _utf8("pattern", pattern))  # type: ignore[no-any-return]
 
 
 def starts_with(text: str, pattern: str) -> bool:
@@ -441,6 +468,119 @@ def link_at(text: str, position: int) -> Optional[str]:
     'http://x'
     """
     return _edited(text, (_LINK_AT, _position("position", position), 0, b""))  # type: ignore[no-any-return]
+
+
+def remove(text: str, start: int, end: int) -> str:
+    """The text without what its plain text has from one position up to another. Every sequence stays, so each character that is
+    left keeps its style. ValueError: the end is below the start, or past the end of the plain text.
+
+    >>> remove("one \\x1b[1mtwo\\x1b[22m three", 2, 5)
+    'on\\x1b[1mwo\\x1b[22m three'
+    """
+    step = _REMOVE, _position("start", start), _position("end", end), b""
+    removed = _edited(text, step)
+    if removed is None:
+        raise ValueError("no range of the plain text: {} up to {}".format(start, end))
+    return removed  # type: ignore[no-any-return]
+
+
+# A color: a name, a number among 256, or red, green and blue
+Color = Union[str, int, Tuple[int, int, int]]
+
+
+def _byte(name: str, number: int) -> int:
+    number = _position(name, number)
+    if number > 255:
+        raise ValueError("{} is above 255: {}".format(name, number))
+    return number
+
+
+def _color_codes(name: str, color: Optional[Color], first: Optional[int], extended: int) -> List[str]:
+    """The code of a color. Those of eight names are from `first` on, and of their bright ones 60 above; if there is none, or for
+    another color, it comes after the code `extended`."""
+    if color is None:
+        return []
+    if isinstance(color, str):
+        names = [each.lower() for each in COLORS]
+        index = _index(name, color.replace("_", "").lower(), tuple(names))
+        if first is not None:
+            return [str(first + index % 8 + (60 if index >= 8 else 0))]
+        return ["{};5;{}".format(extended, index)]
+    if isinstance(color, tuple):
+        if len(color) != 3:
+            raise ValueError("{} must have three numbers, not {}".format(name, len(color)))
+        return ["{};2;{};{};{}".format(extended, *(_byte(name, number) for number in color))]
+    return ["{};5;{}".format(extended, _byte(name, color))]
+
+
+def codes(*, foreground: Optional[Color] = None, background: Optional[Color] = None, underline_color: Optional[Color] = None,
+          font: Optional[int] = None, **attributes: bool) -> str:
+    """The SGR codes of a style by names, for `mark` and `restyle`: of attributes, which are those of ATTRIBUTES, colors and a font.
+    A color is a name of COLORS, in any case and with or without `_`, a number among 256, or red, green and blue. The font is its
+    code, from 10 to 19. An attribute that is false has no code.
+
+    >>> codes(bold=True, foreground="red"), codes(background=208), codes(underline=True, underline_color=(97, 175, 239))
+    ('1;31', '48;5;208', '4;58;2;97;175;239')
+    """
+    for name in attributes:
+        if name not in ATTRIBUTES:
+            raise TypeError("there is no attribute {!r}: they are {}".format(name, ", ".join(ATTRIBUTES)))
+    given = [str(code) for name, code in zip(ATTRIBUTES, _CODES) if attributes.get(name)]
+    if font is not None:
+        if not 10 <= _position("font", font) <= 19:
+            raise ValueError("font must be from 10 to 19, not {}".format(font))
+        given.append(str(_position("font", font)))
+    given += _color_codes("foreground", foreground, 30, 38)
+    given += _color_codes("background", background, 40, 48)
+    given += _color_codes("underline_color", underline_color, None, 58)
+    return ";".join(given)
+
+
+def _given_codes(style: str) -> bytes:
+    data = _utf8("style", style)
+    if data.strip(b"0123456789:;"):
+        raise ValueError("style must have only digits, ';' and ':', not {!r}".format(style))
+    return data
+
+
+def mark(text: str, pattern: str, style: str) -> str:
+    """The text with each match of a pattern, as `matches` finds them, in a style, as `restyle` makes it.
+
+    >>> mark("to do: \\x1b[1mdo", "do", "7")
+    'to \\x1b[7mdo\\x1b[27m: \\x1b[1m\\x1b[7mdo\\x1b[22m\\x1b[27m\\x1b[1m'
+    """
+    return _library.mark(_utf8("text", text), _utf8("pattern", pattern), _given_codes(style))  # type: ignore[no-any-return]
+
+
+def restyle(text: str, ranges: Iterable[Tuple[int, int]], style: str) -> str:
+    """The text with SGR codes applied to each character in ranges: pairs of positions in order, which don't overlap. The style is
+    the codes as an SGR has them, such as `1;31`, or as `codes` makes them. Each character there has its own style after them: so
+    `1` makes it bold and keeps its color, `22` makes it neither bold nor faint, and `0` or no code makes it plain. Every other
+    character keeps its style; the plain text and every other sequence stay. ValueError: the style has anything but digits, `;`
+    and `:`, or a range begins before the one before it ends, ends below its start, or ends past the end of the plain text.
+
+    >>> restyle("red \\x1b[31mred", [(0, 2), (5, 6)], "4")
+    '\\x1b[4mre\\x1b[24md \\x1b[31mr\\x1b[4me\\x1b[24m\\x1b[39m\\x1b[31md'
+    >>> import re
+    >>> log = "\\x1b[31m404\\x1b[39m in 12 ms"
+    >>> restyle(log, [match.span() for match in re.finditer("[0-9]+", strip(log))], codes(bold=True))
+    '\\x1b[31m\\x1b[1m404\\x1b[22m\\x1b[39m\\x1b[31m\\x1b[39m in \\x1b[1m12\\x1b[22m ms'
+    """
+    data, given = _utf8("text", text), _given_codes(style)
+    pairs: List[Tuple[int, int]] = []
+    before = 0
+    for start, end in ranges:
+        start, end = _position("start", start), _position("end", end)
+        if start < before:
+            raise ValueError("a range begins before the one before it ends: {} is below {}".format(start, before))
+        if end < start:
+            raise ValueError("the end lies before the start: {} is below {}".format(end, start))
+        pairs.append((start, end))
+        before = end
+    restyled = _library.restyle(data, len(data) == str.__len__(text), tuple(pairs), given)
+    if restyled is None:
+        raise ValueError("a range ends past the end of the plain text: {}".format(before))
+    return restyled  # type: ignore[no-any-return]
 
 
 class Cut(NamedTuple):

@@ -13,10 +13,10 @@
 enum { LONG = 1 << 16 };
 
 /* kinds beside those of edits; SANITIZE takes any bytes */
-enum { TRUNCATE = ANSI_STR_EDIT_TRIM + 1, FIT, PAD, SANITIZE, LINK_AT, SLICE, EXPAND_TABS, STRIP, KINDS };
+enum { TRUNCATE = ANSI_STR_EDIT_TRIM + 1, FIT, PAD, SANITIZE, LINK_AT, SLICE, EXPAND_TABS, REMOVE, STRIP, KINDS, MARK = KINDS, RESTYLE };
 
-/* the questions about a text: those up to IS_SAFE are yes or no, FIND and FITTING return a position, the others columns */
-enum { STARTS_WITH, ENDS_WITH, HAS_ANY, IS_WHOLE, IS_SAFE, FIND, FITTING, WIDTH, COLUMN_OF, QUESTIONS };
+/* the questions about a text: those up to IS_SAFE are yes or no, those from FIND to FITTING return a position, the others columns */
+enum { STARTS_WITH, ENDS_WITH, HAS_ANY, IS_WHOLE, IS_SAFE, FIND, FIND_FROM, FITTING, WIDTH, COLUMN_OF, QUESTIONS };
 
 /* a text and the `bytes` that begins with it */
 typedef struct {
@@ -24,6 +24,14 @@ typedef struct {
     uint8_t *bytes;
     size_t size;
 } Text;
+
+/* an edit, or a step of another kind; the codes of MARK and RESTYLE, and the ranges of RESTYLE */
+typedef struct {
+    ansi_str_edit_step edit;
+    Text codes;
+    const ansi_str_range *ranges;
+    size_t ranges_len;
+} Step;
 
 static Text text_of(PyObject *object) {
     return (Text){object, (uint8_t *)PyBytes_AsString(object), (size_t)PyBytes_Size(object)};
@@ -78,7 +86,14 @@ static void run_alone(PyThreadState *thread) {
     }
 }
 
-static ansi_str_answer write_step(const Text *text, const ansi_str_edit_step *step, const Text *room) {
+static Step step_of(uint32_t kind, size_t first, size_t second, PyObject *pattern) {
+    const char *bytes = pattern == NULL ? NULL : PyBytes_AsString(pattern);
+    size_t size = pattern == NULL ? 0 : (size_t)PyBytes_Size(pattern);
+    return (Step){ansi_str_edit_of(kind, first, second, bytes, size), {NULL, NULL, 0}, NULL, 0};
+}
+
+static ansi_str_answer write_step(const Text *text, const Step *made, const Text *room) {
+    const ansi_str_edit_step *step = &made->edit;
     switch (step->kind) {
     case STRIP:
         return ansi_str_raw_strip(text->bytes, text->size, room->bytes, room->size);
@@ -99,13 +114,21 @@ static ansi_str_answer write_step(const Text *text, const ansi_str_edit_step *st
         return ansi_str_raw_slice(text->bytes, text->size, step->first, step->second, room->bytes, room->size);
     case EXPAND_TABS:
         return ansi_str_raw_expand_tabs(text->bytes, text->size, step->first, room->bytes, room->size);
+    case REMOVE:
+        return ansi_str_raw_remove(text->bytes, text->size, step->first, step->second, room->bytes, room->size);
+    case MARK:
+        return ansi_str_raw_mark(text->bytes, text->size, step->pattern, step->pattern_len, made->codes.bytes, made->codes.size,
+                                 room->bytes, room->size);
+    case RESTYLE:
+        return ansi_str_raw_restyle(text->bytes, text->size, made->ranges, made->ranges_len, made->codes.bytes, made->codes.size,
+                                    room->bytes, room->size);
     default:
         return ansi_str_raw_edit(text->bytes, text->size, step, 1, room->bytes, room->size);
     }
 }
 
 /* Makes the text of a step, whose positions count bytes. Returns false with an error set, or with none if the step is refused. */
-static bool make_step(const Text *text, const ansi_str_edit_step *step, Text *made) {
+static bool make_step(const Text *text, const Step *step, Text *made) {
     size_t size = text->size + ANSI_STR_LONGEST_START_AND_CLOSE;
     ansi_str_answer answer;
     do {
@@ -129,7 +152,7 @@ static bool make_step(const Text *text, const ansi_str_edit_step *step, Text *ma
 }
 
 static bool make_plain(const Text *text, Text *plain) {
-    ansi_str_edit_step step = ansi_str_edit_of(STRIP, 0, 0, NULL, 0);
+    Step step = step_of(STRIP, 0, 0, NULL);
     return make_step(text, &step, plain);
 }
 
@@ -143,6 +166,16 @@ static size_t place_after(const Text *plain, size_t place, size_t characters) {
         place++;
     }
     return place;
+}
+
+/* The same, but as many places past the end as characters are lacking. */
+static size_t place_past(const Text *plain, size_t place, size_t characters) {
+    for (; place < plain->size; place++) {
+        if (begins_character(plain->bytes[place]) && characters-- == 0) {
+            return place;
+        }
+    }
+    return place + characters;
 }
 
 /* How many characters of the plain text are before a place, or -1 with an error. */
@@ -179,7 +212,8 @@ static bool make_text(const Text *text, bool is_ascii, PyObject *words, Text *ma
     int kind;
     PyObject *first_given, *second_given, *pattern;
     size_t first, second;
-    ansi_str_edit_step step;
+    Step made_of;
+    ansi_str_edit_step *step = &made_of.edit;
     if (!PyTuple_Check(words)) {
         PyErr_SetString(PyExc_TypeError, "a step must be a tuple");
         return false;
@@ -188,18 +222,19 @@ static bool make_text(const Text *text, bool is_ascii, PyObject *words, Text *ma
         !read_number(first_given, &first) || !read_number(second_given, &second) || !have_meaning(kind, first, second)) {
         return false;
     }
-    step = ansi_str_edit_of((uint32_t)kind, first, second, PyBytes_AsString(pattern), (size_t)PyBytes_Size(pattern));
-    if (!is_ascii && (kind <= ANSI_STR_EDIT_RIGHT || kind == LINK_AT) && (kind != ANSI_STR_EDIT_CUT || step.first <= step.second)) {
+    made_of = step_of((uint32_t)kind, first, second, pattern);
+    if (!is_ascii && (kind <= ANSI_STR_EDIT_RIGHT || kind == LINK_AT || kind == REMOVE) &&
+        ((kind != ANSI_STR_EDIT_CUT && kind != REMOVE) || first <= second)) {
         Text plain;
-        size_t between = step.second - step.first;
+        size_t (*place_of)(const Text *, size_t, size_t) = kind == REMOVE ? place_past : place_after;
         if (!make_plain(text, &plain)) {
             return false;
         }
-        step.first = place_after(&plain, 0, step.first);
-        step.second = place_after(&plain, step.first, between);
+        step->first = place_of(&plain, 0, first);
+        step->second = place_of(&plain, step->first, second - first);
         Py_DecRef(plain.object);
     }
-    return make_step(text, &step, made);
+    return make_step(text, &made_of, made);
 }
 
 /* (text, is_ascii, steps): the text after all steps, each a kind, two numbers and a pattern, or None if one is refused. */
@@ -243,6 +278,154 @@ static PyObject *strip(PyObject *module, PyObject *words) {
     return answer;
 }
 
+/* The text that a step makes, decoded; None if it is refused; NULL with an error. */
+static PyObject *text_made(const Text *text, const Step *step) {
+    Text made;
+    PyObject *answer;
+    if (!make_step(text, step, &made)) {
+        return none_or_error();
+    }
+    answer = decoded(made.bytes, made.size);
+    Py_DecRef(made.object);
+    return answer;
+}
+
+/* (text, pattern, codes): the text with the codes applied to each match, or None if they are refused. */
+static PyObject *mark(PyObject *module, PyObject *words) {
+    PyObject *given, *sought, *codes;
+    Text text;
+    Step step;
+    (void)module;
+    if (!PyArg_ParseTuple(words, "SSS", &given, &sought, &codes)) {
+        return NULL;
+    }
+    text = text_of(given);
+    step = step_of(MARK, 0, 0, sought);
+    step.codes = text_of(codes);
+    return text_made(&text, &step);
+}
+
+/* Reads ranges of positions in characters, each from where the one before ends or later, as ranges in bytes of a plain text. If there
+   is none, a character is a byte. Returns false with an error. */
+static bool read_ranges(PyObject *given, const Text *plain, ansi_str_range *ranges) {
+    size_t place = 0, characters = 0;
+    Py_ssize_t at;
+    for (at = 0; at < PyTuple_Size(given); at++) {
+        PyObject *pair = PyTuple_GetItem(given, at);
+        size_t ends[2], which;
+        if (!PyTuple_Check(pair) || PyTuple_Size(pair) != 2) {
+            PyErr_SetString(PyExc_TypeError, "a range must be a tuple of two");
+            return false;
+        }
+        for (which = 0; which < 2; which++) {
+            size_t position;
+            if (!read_number(PyTuple_GetItem(pair, (Py_ssize_t)which), &position)) {
+                return false;
+            }
+            if (position < characters) {
+                PyErr_SetString(PyExc_ValueError, "the ranges aren't in order");
+                return false;
+            }
+            place = plain == NULL ? position : place_past(plain, place, position - characters);
+            characters = position;
+            ends[which] = place;
+        }
+        ranges[at] = (ansi_str_range){ends[0], ends[1]};
+    }
+    return true;
+}
+
+/* (text, is_ascii, ranges, codes): the text with the codes applied in the ranges, or None if one of them is refused. */
+static PyObject *restyle(PyObject *module, PyObject *words) {
+    PyObject *given, *pairs, *codes, *answer = NULL;
+    int is_ascii;
+    Text text, plain = {NULL, NULL, 0};
+    Step step = step_of(RESTYLE, 0, 0, NULL);
+    ansi_str_range *ranges;
+    (void)module;
+    if (!PyArg_ParseTuple(words, "SpO!S", &given, &is_ascii, &PyTuple_Type, &pairs, &codes)) {
+        return NULL;
+    }
+    text = text_of(given);
+    step.codes = text_of(codes);
+    step.ranges_len = (size_t)PyTuple_Size(pairs);
+    ranges = PyMem_Malloc((step.ranges_len + 1) * sizeof *ranges);
+    step.ranges = ranges;
+    if (ranges == NULL) {
+        return PyErr_NoMemory();
+    }
+    if ((is_ascii || make_plain(&text, &plain)) && read_ranges(pairs, is_ascii ? NULL : &plain, ranges)) {
+        answer = text_made(&text, &step);
+    }
+    Py_DecRef(plain.object);
+    PyMem_Free(ranges);
+    return answer;
+}
+
+/* The list of ranges of a plain text, as positions in characters. If there is no plain text, a character is a byte. */
+static PyObject *list_of_ranges(const Text *plain, const ansi_str_range *ranges, size_t count) {
+    PyObject *list = PyList_New((Py_ssize_t)count);
+    size_t place = 0, at;
+    Py_ssize_t characters = 0;
+    for (at = 0; list != NULL && at < count; at++) {
+        Py_ssize_t ends[2];
+        size_t which;
+        PyObject *pair;
+        for (which = 0; which < 2; which++) {
+            size_t end = which == 0 ? ranges[at].start : ranges[at].end;
+            for (; place < end; place++) {
+                characters += plain == NULL || begins_character(plain->bytes[place]);
+            }
+            ends[which] = characters;
+        }
+        pair = Py_BuildValue("(nn)", ends[0], ends[1]);
+        if (pair == NULL) {
+            Py_DecRef(list);
+            return NULL;
+        }
+        PyList_SetItem(list, (Py_ssize_t)at, pair);
+    }
+    return list;
+}
+
+/* (text, is_ascii, pattern): where each match begins and ends, in characters. */
+static PyObject *matches(PyObject *module, PyObject *words) {
+    PyObject *given, *sought, *list = NULL;
+    int is_ascii;
+    Text text, pattern, plain = {NULL, NULL, 0};
+    /* (there is at most one match more than the text has bytes) */
+    size_t room = 64;
+    ansi_str_range *ranges = NULL;
+    ansi_str_answers answer;
+    (void)module;
+    if (!PyArg_ParseTuple(words, "SpS", &given, &is_ascii, &sought)) {
+        return NULL;
+    }
+    text = text_of(given);
+    pattern = text_of(sought);
+    do {
+        ansi_str_range *more = PyMem_Realloc(ranges, room * sizeof *ranges);
+        PyThreadState *thread;
+        if (more == NULL) {
+            answer.status = ANSI_STR_OUT_OF_MEMORY;
+            break;
+        }
+        ranges = more;
+        thread = let_others_run(text.size);
+        answer = ansi_str_raw_matches(text.bytes, text.size, pattern.bytes, pattern.size, ranges, room);
+        run_alone(thread);
+        room = answer.count;
+    } while (answer.status == ANSI_STR_TOO_SMALL);
+    if (answer.status != ANSI_STR_OK) {
+        set_error(answer.status);
+    } else if (is_ascii || make_plain(&text, &plain)) {
+        list = list_of_ranges(is_ascii ? NULL : &plain, ranges, answer.count);
+        Py_DecRef(plain.object);
+    }
+    PyMem_Free(ranges);
+    return list;
+}
+
 static ansi_str_answer ask(int what, const Text *text, const Text *pattern, size_t number) {
     switch (what) {
     case STARTS_WITH:
@@ -255,6 +438,8 @@ static ansi_str_answer ask(int what, const Text *text, const Text *pattern, size
         return ansi_str_raw_is_whole(text->bytes, text->size);
     case IS_SAFE:
         return ansi_str_raw_is_safe(text->bytes, text->size, (uint32_t)number);
+    case FIND_FROM:
+        return ansi_str_raw_find_from(text->bytes, text->size, number, pattern->bytes, pattern->size);
     case FITTING:
         return ansi_str_raw_fitting(text->bytes, text->size, number);
     case WIDTH:
@@ -283,11 +468,11 @@ static PyObject *tell(PyObject *module, PyObject *words) {
     }
     text = text_of(given);
     pattern = text_of(sought);
-    if (what == COLUMN_OF && !is_ascii) {
+    if ((what == COLUMN_OF || what == FIND_FROM) && !is_ascii) {
         if (!make_plain(&text, &plain)) {
             return NULL;
         }
-        number = place_after(&plain, 0, number);
+        number = place_past(&plain, 0, number);
         Py_DecRef(plain.object);
     }
     thread = let_others_run(text.size);
@@ -575,6 +760,7 @@ static PyType_Spec walk_spec = {"ansi_str.Walk", sizeof(Walk), 0, Py_TPFLAGS_DEF
 static PyMethodDef calls[] = {
     {"edit", edit, METH_VARARGS, NULL},   {"tell", tell, METH_VARARGS, NULL}, {"walk", walk, METH_VARARGS, NULL},
     {"strip", strip, METH_VARARGS, NULL}, {"wrap", wrap, METH_VARARGS, NULL}, {"walk_lines", walk_lines, METH_VARARGS, NULL},
+    {"mark", mark, METH_VARARGS, NULL},   {"restyle", restyle, METH_VARARGS, NULL}, {"matches", matches, METH_VARARGS, NULL},
     {NULL, NULL, 0, NULL},
 };
 

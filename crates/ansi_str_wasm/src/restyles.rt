@@ -1,0 +1,66 @@
+//! Calls on matches and on ranges: where a pattern occurs, parts of a text in another style, and a
+//! text without a part.
+ghost use Rattle.ansi_calls.specs.Restyles.{WritesMatches, Restyles, Marks, Removes};
+
+use crate::memory::arena_of;
+use ansi_calls::answers::Answer;
+use ansi_calls::lists::ListAnswer;
+use ansi_calls::restyles::{RangeEntry, mark, matches, remove, restyle};
+use one_block::{MemoryBlock, OneBlock};
+
+/// Where each match of a pattern begins and ends in the plain text.
+#[unsafe(no_mangle)]
+pub extern "C" fn ansi_str_raw_matches(
+    text: &[u8],
+    pattern: &[u8],
+    entries: &mut [RangeEntry],
+) -> ListAnswer
+    ensures { WritesMatches text.now pattern.now result entries.old entries.new }
+{
+    matches(text, pattern, entries)
+}
+
+/// The text with SGR codes applied to each character in the ranges.
+#[unsafe(no_mangle)]
+pub extern "C" fn ansi_str_raw_restyle(
+    memory: MemoryBlock,
+    text: &[u8],
+    entries: &[RangeEntry],
+    codes: &[u8],
+    buffer: &mut [u8],
+) -> Answer
+    ensures { Restyles text.now entries.now codes.now result buffer.old buffer.new }
+{
+    let block = OneBlock::new(memory);
+    restyle(&arena_of(&block), text, entries, codes, buffer)
+}
+
+/// The text with SGR codes applied to each match of a pattern.
+#[unsafe(no_mangle)]
+pub extern "C" fn ansi_str_raw_mark(
+    memory: MemoryBlock,
+    text: &[u8],
+    pattern: &[u8],
+    codes: &[u8],
+    buffer: &mut [u8],
+) -> Answer
+    ensures { Marks text.now pattern.now codes.now result buffer.old buffer.new }
+{
+    let block = OneBlock::new(memory);
+    mark(&arena_of(&block), text, pattern, codes, buffer)
+}
+
+/// The text without its plain bytes from one position up to another.
+#[unsafe(no_mangle)]
+pub extern "C" fn ansi_str_raw_remove(
+    memory: MemoryBlock,
+    text: &[u8],
+    start: usize,
+    end: usize,
+    buffer: &mut [u8],
+) -> Answer
+    ensures { Removes text.now start end result buffer.old buffer.new }
+{
+    let block = OneBlock::new(memory);
+    remove(&arena_of(&block), text, start, end, buffer)
+}
