@@ -424,3 +424,7 @@ impl<'a> Iterator for AnsiSplit<'a> {
 }
 
 impl FusedIterator for AnsiSplit<'_> {}
+
+#[cfg(doctest)]
+#[doc = include_str!("../../../docs/COOKBOOK.md")]
+struct Cookbook;
