@@ -6,6 +6,7 @@ mod cut;
 mod edits;
 mod find;
 mod kept;
+mod restyle;
 mod sides;
 mod split;
 mod style;
