@@ -586,13 +586,11 @@ pub(crate) fn find_from(text: &str, position: usize, pat: &str) -> Option<usize>
     outcome(answer.status, answer.len).ok()
 }
 
-/// How many matches have room at first.
-const FEW: usize = 16;
-
 /// Where each match of a pattern begins and ends.
 pub(crate) fn matches(text: &str, pat: &str) -> Vec<RawRange> {
     let (t, n, p, k) = (text.as_ptr(), text.len(), pat.as_ptr(), pat.len());
-    let mut ranges = Vec::with_capacity(FEW);
+    // (most often there are fewer)
+    let mut ranges = Vec::with_capacity(16 + n / 32);
     loop {
         let free: &mut [MaybeUninit<RawRange>] = ranges.spare_capacity_mut();
         let (places, most) = (free.as_mut_ptr().cast(), free.len());
@@ -616,7 +614,8 @@ pub(crate) fn restyle(text: &str, ranges: &[Range<usize>], codes: &str) -> Optio
     };
     let raw: Vec<RawRange> = ranges.iter().map(raw_of).collect();
     let (t, n, c, j) = (text.as_ptr(), text.len(), codes.as_ptr(), codes.len());
-    written(n + LONGEST_START_AND_CLOSE, |b, m| {
+    // (what a range writes is most often shorter than this)
+    written(n + 48 * raw.len(), |b, m| {
         // SAFETY: two `str`s, a vector's ranges, and the room; any numbers may be a range
         unsafe { ansi_str_raw_restyle(t, n, raw.as_ptr(), raw.len(), c, j, b, m) }
     })
@@ -626,7 +625,7 @@ pub(crate) fn restyle(text: &str, ranges: &[Range<usize>], codes: &str) -> Optio
 /// The text with codes applied to each match, or `None` if they are refused.
 pub(crate) fn mark(text: &str, pat: &str, codes: &str) -> Option<String> {
     let (t, n, p, k) = (text.as_ptr(), text.len(), pat.as_ptr(), pat.len());
-    written(n + LONGEST_START_AND_CLOSE, |b, m| {
+    written(2 * n, |b, m| {
         // SAFETY: three `str`s, and the room
         unsafe { ansi_str_raw_mark(t, n, p, k, codes.as_ptr(), codes.len(), b, m) }
     })

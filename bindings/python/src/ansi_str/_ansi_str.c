@@ -129,7 +129,9 @@ static ansi_str_answer write_step(const Text *text, const Step *made, const Text
 
 /* Makes the text of a step, whose positions count bytes. Returns false with an error set, or with none if the step is refused. */
 static bool make_step(const Text *text, const Step *step, Text *made) {
-    size_t size = text->size + ANSI_STR_LONGEST_START_AND_CLOSE;
+    /* (what a mark and a range write is most often shorter than this) */
+    size_t more = step->edit.kind == MARK ? text->size : 48 * step->ranges_len;
+    size_t size = text->size + more + ANSI_STR_LONGEST_START_AND_CLOSE;
     ansi_str_answer answer;
     do {
         PyThreadState *thread;
@@ -393,8 +395,7 @@ static PyObject *matches(PyObject *module, PyObject *words) {
     PyObject *given, *sought, *list = NULL;
     int is_ascii;
     Text text, pattern, plain = {NULL, NULL, 0};
-    /* (there is at most one match more than the text has bytes) */
-    size_t room = 64;
+    size_t room;
     ansi_str_range *ranges = NULL;
     ansi_str_answers answer;
     (void)module;
@@ -403,6 +404,8 @@ static PyObject *matches(PyObject *module, PyObject *words) {
     }
     text = text_of(given);
     pattern = text_of(sought);
+    /* (most often there are fewer) */
+    room = 64 + text.size / 32;
     do {
         ansi_str_range *more = PyMem_Realloc(ranges, room * sizeof *ranges);
         PyThreadState *thread;
