@@ -1,6 +1,7 @@
 //! The calls that rows name.
 use crate::columns::ColumnCall;
 use crate::ranges::AnyRange;
+use crate::restyles::RestyleCall;
 use crate::rows::Row;
 use crate::safe::SafeCall;
 use ansi_str::Edit;
@@ -44,6 +45,7 @@ pub enum Call<'r> {
     IsWhole,
     Columns(ColumnCall<'r>),
     Safe(SafeCall),
+    Restyles(RestyleCall<'r>),
 }
 
 impl<'r> Call<'r> {
@@ -103,6 +105,9 @@ impl<'r> Call<'r> {
             "is_char_boundary" => Call::IsCharBoundary(row.number(0)?),
             "floor_char_boundary" => Call::FloorCharBoundary(row.number(0)?),
             "sanitize" | "is_safe" => Call::Safe(SafeCall::new(row)?),
+            "matches" | "find_from" | "restyle" | "mark" | "remove" => {
+                Call::Restyles(RestyleCall::new(row)?)
+            }
             _ => Call::Columns(ColumnCall::new(row)?),
         })
     }

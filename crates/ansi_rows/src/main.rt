@@ -11,6 +11,7 @@ mod check;
 mod columns;
 mod items;
 mod ranges;
+mod restyles;
 mod rows;
 mod safe;
 mod texts;

@@ -85,7 +85,7 @@ impl<'r> Row<'r> {
             return None;
         };
         let gives = match call.as_str() {
-            "split" | "split_at" | "lines" | "wrap" => more.get(1..)?,
+            "split" | "split_at" | "lines" | "wrap" | "matches" => more.get(1..)?,
             "wrap_with" => more.get(3..)?,
             "blocks" | "styled_blocks" | "items" => more,
             _ if status.as_str() == "0" => std::slice::from_ref(result),

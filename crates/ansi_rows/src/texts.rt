@@ -5,6 +5,7 @@ use crate::check::Check;
 use crate::columns::{make_column_call, make_column_call_in};
 use crate::items::check_items;
 use crate::ranges::is_good_range_of;
+use crate::restyles::{make_restyle_call, make_restyle_call_in};
 use crate::safe::{make_safe_call, make_safe_call_in};
 use ansi_columns::wrap::AnsiWrap;
 use ansi_columns::wrap::indents::AnsiWrapWith;
@@ -90,6 +91,7 @@ pub fn make_call<T: AnsiStr>(check: &mut Check<'_>, text: &T, call: &Call<'_>) {
         Call::HasAny => check.test(text.ansi_has_any()),
         Call::Columns(call) => make_column_call(check, text, call),
         Call::Safe(call) => make_safe_call(check, text, call),
+        Call::Restyles(call) => make_restyle_call(check, text, call),
         _ => {}
     }
 }
@@ -147,6 +149,7 @@ pub fn make_call_in(check: &mut Check<'_>, heap: &Refusing<Global>, call: &Call<
         Call::IsWhole => check.test(ansi_is_whole(text)),
         Call::Columns(call) => make_column_call_in(check, heap, call),
         Call::Safe(call) => make_safe_call_in(check, heap, call),
+        Call::Restyles(call) => make_restyle_call_in(check, heap, call),
         _ => make_call(check, &text, call),
     }
 }

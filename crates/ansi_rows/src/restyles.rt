@@ -1,0 +1,98 @@
+//! The results of calls on matches and on ranges.
+use crate::check::Check;
+use crate::rows::Row;
+use ansi_restyle::AnsiRestyle;
+use ansi_restyle::matches::Matches;
+use ansi_restyle::remove::remove_in;
+use ansi_restyle::restyle::{mark_in, restyle_in};
+use ansi_str::AnsiStr;
+use refusing::Refusing;
+use std::alloc::Global;
+
+#[derive(Clone, Copy)]
+pub enum RestyleCall<'r> {
+    Matches(&'r str),
+    FindFrom(usize, &'r str),
+    /// The codes; the ranges are the row's further fields.
+    Restyle(&'r str),
+    Mark(&'r str, &'r str),
+    Remove(usize, usize),
+}
+
+impl<'r> RestyleCall<'r> {
+    pub fn new(row: &Row<'r>) -> Option<Self> {
+        Some(match row.call {
+            "matches" => RestyleCall::Matches(row.argument(0)?),
+            "find_from" => RestyleCall::FindFrom(row.number(0)?, row.argument(1)?),
+            "restyle" => RestyleCall::Restyle(row.argument(0)?),
+            "mark" => RestyleCall::Mark(row.argument(0)?, row.argument(1)?),
+            "remove" => RestyleCall::Remove(row.number(0)?, row.number(1)?),
+            _ => return None,
+        })
+    }
+}
+
+/// A range: two numbers with a comma between.
+fn range_of(field: &str) -> Option<(usize, usize)> {
+    let (start, end) = field.split_once(',')?;
+    Some((start.parse().ok()?, end.parse().ok()?))
+}
+
+/// The ranges of a row, which follow its codes.
+fn ranges_of(alloc: Global, row: &Row<'_>) -> Option<Vec<(usize, usize)>> {
+    let mut ranges = Vec::new(alloc);
+    for field in row.more.get(1..)? {
+        ranges.push(range_of(field.as_str())?).ok()?;
+    }
+    Some(ranges)
+}
+
+fn check_matches(check: &mut Check<'_>, matches: Matches<'_, '_>) {
+    for range in matches {
+        check.interval(Some(range));
+    }
+}
+
+/// Checks what a call of `AnsiRestyle` returns.
+pub fn make_restyle_call<T: AnsiStr>(check: &mut Check<'_>, text: &T, call: RestyleCall<'_>) {
+    let alloc = check.alloc;
+    match call {
+        RestyleCall::Matches(pat) => check_matches(check, text.ansi_matches(pat)),
+        RestyleCall::FindFrom(position, pat) => {
+            check.number_or_none(text.ansi_find_from(position, pat));
+        }
+        RestyleCall::Restyle(codes) => match ranges_of(alloc, &check.row) {
+            Some(ranges) => {
+                check.option_or_err(text.ansi_restyle(alloc, ranges.as_slice(), codes), "2");
+            }
+            None => check.fail("no range"),
+        },
+        RestyleCall::Mark(pat, codes) => {
+            check.option_or_err(text.ansi_mark(alloc, pat, codes), "2");
+        }
+        RestyleCall::Remove(start, end) => {
+            check.option_or_err(text.ansi_remove(alloc, (start, end)), "2");
+        }
+    }
+}
+
+/// Checks what a call returns if it allocates from `heap`. A call without an allocator is made as
+/// usual.
+pub fn make_restyle_call_in(check: &mut Check<'_>, heap: &Refusing<Global>, call: RestyleCall<'_>) {
+    let text = check.row.text;
+    match call {
+        RestyleCall::Restyle(codes) => match ranges_of(check.alloc, &check.row) {
+            Some(ranges) => {
+                check.option_or_err(restyle_in(heap, text, ranges.as_slice(), codes), "2");
+            }
+            None => check.fail("no range"),
+        },
+        RestyleCall::Mark(pat, codes) => {
+            check.option_or_err(mark_in(heap, text, pat, codes), "2");
+        }
+        RestyleCall::Remove(start, end) => {
+            check.option_or_err(remove_in(heap, text, (start, end)), "2");
+        }
+        _ => make_restyle_call(check, &text, call),
+    }
+}
