@@ -13,6 +13,7 @@ pub mod LengthLemmas
 mod LengthExamples
 pub mod RemovedLemmas
 pub mod PlaceLemmas
+pub mod LinkedLemmas
 pub mod ReplacedLemmas
 pub mod ReplaceLawLemmas
 pub mod WithoutLinksLemmas

@@ -7,7 +7,8 @@ use Rattle.std.specs.List.{list_all}
 use Rattle.std.specs.Str.{IsCharBoundary}
 use Rattle.ansi_items.specs.Bytes.{is_plain_byte}
 use Rattle.ansi_items.specs.Pieces.{Piece, Text, Sequence, LoneEscape, ArePieces, pieces_of, after_text}
-use Rattle.ansi_items.specs.Plain.{plain, plain_of, are_whole, is_whole}
+use Rattle.ansi_items.specs.Sequences.{is_sgr}
+use Rattle.ansi_items.specs.Plain.{plain, plain_of, are_whole, is_whole, marks, marks_up_to}
 use Rattle.ansi_items.specs.declared.ansitok.Kind.{Kind}
 use Rattle.ansi_items.proofs.PieceLemmas.{pieces_are, sequence_front}
 use Rattle.ansi_items.proofs.PlainLemmas.{has_escape-bare, plain-bare, is_whole-plain}
@@ -18,12 +19,14 @@ use Rattle.ansi_style.specs.Rendition.{plain_style}
 use Rattle.ansi_style.specs.Sgr.{apply}
 use Rattle.ansi_style.specs.Reading.{after_marks, style_within, styled_from, style_after_from}
 use Rattle.ansi_style.specs.Styled.{styled, style_at, style_after}
-use Rattle.ansi_style.proofs.MarkLemmas.{marks-bare}
+use Rattle.ansi_style.proofs.MarkLemmas.{marks-bare, state_by_marks, state_by_marks-before, state_by_marks-text, state_by_marks-mark}
 use Rattle.ansi_style.proofs.SpelledLemmas.{styled_from-append, style_after_from-append}
 use Rattle.ansi_search.specs.Offsets.{bytes_before, offset_of}
 use Rattle.ansi_search.specs.Positions.{no_character_goes_on, is_char_boundary}
 use Rattle.ansi_search.proofs.SliceLemmas.{drop-append}
 use Rattle.ansi_search.proofs.OffsetLemmas.{IsOverText, IsOverMark, IsOffsetWalk, offset_walk-begin, offset_walk-text, offset_walk-mark, offset_walk-last, offset_walk-boundary, offset_walk-end}
+use Rattle.ansi_safe.specs.Links.{opens_link, link_at, link_after}
+use Rattle.ansi_safe.proofs.LinkLemmas.{link_of-fold, is_link-sgr}
 use Rattle.ansi_restyle.specs.Restyled.{front, rest}
 use Rattle.ansi_restyle.specs.Replaced.{place_of}
 use Rattle.ansi_restyle.proofs.EmptyLemmas.{offset-rest}
@@ -61,7 +64,7 @@ rest_begins t n within =
 
 -- One plain byte is a whole text, and changes no style.
 
-whole-bare : (v : List ℕ) → list_all is_plain_byte v ≡ true → IsTrue (is_whole v)
+pub whole-bare : (v : List ℕ) → list_all is_plain_byte v ≡ true → IsTrue (is_whole v)
 whole-bare v bare = ap is_whole (sym (plain-bare v (has_escape-bare v bare))) ∙ is_whole-plain v
 
 pub style_after-bare : (s : Rendition) (v : List ℕ) → list_all is_plain_byte v ≡ true → style_after_from s v ≡ s
@@ -208,9 +211,10 @@ is_place t a within whole = elim (cases_lt 0 a) [
 
 -- How far a walk to the place has come.
 
-pub record IsPlaceWalk (t : List ℕ) (a passed remaining : ℕ) (style : Rendition) (ps : List Piece) : Type 0 where
+pub record IsPlaceWalk (t : List ℕ) (a passed remaining : ℕ) (style : Rendition) (link : List ℕ) (ps : List Piece) : Type 0 where
   pub here : IsOffsetWalk t a plain_style passed remaining style ps
   pub before : IsOffsetWalk t (a - 1) plain_style passed (remaining - 1) style ps
+  pub linked : state_by_marks link_after link ps (remaining - 1) ≡ link_at t (a - 1)
   pub within : remaining ≤ length (plain_of ps)
   pub some : 0 < a → 0 < remaining
   pub few : remaining ≤ a
@@ -218,39 +222,53 @@ pub record IsPlaceWalk (t : List ℕ) (a passed remaining : ℕ) (style : Rendit
 boundary_parts : (x : List ℕ) (n : ℕ) → is_char_boundary x n ≡ true → (n ≤ length x) × IsTrue (no_character_goes_on x n)
 boundary_parts x n is = (let both = and_parts (nat_le n (length x)) (no_character_goes_on x n) is in (leb-true n (length x) both.0, both.1))
 
-pub place_walk-begin : (t : List ℕ) (a : ℕ) (s : Rendition) → is_char_boundary (plain t) a ≡ true → s ≡ plain_style → IsPlaceWalk t a 0 a s (pieces_of t)
-place_walk-begin t a s is plain_is = subst (λ r. IsPlaceWalk t a 0 a r (pieces_of t)) (sym plain_is) (record {
+pub place_walk-begin : (t : List ℕ) (a : ℕ) (s : Rendition) → is_char_boundary (plain t) a ≡ true → s ≡ plain_style → IsPlaceWalk t a 0 a s [] (pieces_of t)
+place_walk-begin t a s is plain_is = subst (λ r. IsPlaceWalk t a 0 a r [] (pieces_of t)) (sym plain_is) (record {
   here = offset_walk-begin t a plain_style;
   before = offset_walk-begin t (a - 1) plain_style;
+  linked = sym (link_of-fold (marks_up_to (a - 1) (marks t)));
   within = (boundary_parts (plain t) a is).0;
   some = λ is. is;
   few = omega arith;
 })
 
-pub place_walk-text : {t : List ℕ} {a passed at remaining next : ℕ} {style : Rendition} {w : List ℕ} {old ps : List Piece} → IsPlaceWalk t a passed remaining style old → IsOverText t w passed at old ps
-    → length w < remaining → next ≡ remaining - length w → IsPlaceWalk t a at next style ps
-place_walk-text {w = w} {ps = ps} walk over far next_is = record {
-  here = offset_walk-text walk.here over (omega (arith, far)) next_is;
-  before = offset_walk-text walk.before over (omega (arith, far)) (omega (arith, next_is));
-  within = omega (arith, walk.within, next_is, ap (λ qs. length (plain_of qs)) over.first, length-append w (plain_of ps));
-  some = λ _. omega (arith, far, next_is);
-  few = omega (arith, next_is, walk.few);
-}
+pub place_walk-text : {t : List ℕ} {a passed at remaining next : ℕ} {style : Rendition} {link w : List ℕ} {old ps : List Piece} → IsPlaceWalk t a passed remaining style link old → IsOverText t w passed at old ps
+    → length w < remaining → next ≡ remaining - length w → IsPlaceWalk t a at next style link ps
+place_walk-text {remaining = remaining} {next = next} {link = link} {w = w} {ps = ps} walk over far next_is =
+    let sum : length w + (next - 1) ≡ remaining - 1 = omega (arith, far, next_is) in
+    record {
+      here = offset_walk-text walk.here over (omega (arith, far)) next_is;
+      before = offset_walk-text walk.before over (omega (arith, far)) (omega (arith, next_is));
+      linked = sym (state_by_marks-text link_after link w ps (next - 1)) ∙ ap₂ (λ qs i. state_by_marks link_after link qs i) (sym over.first) sum ∙ walk.linked;
+      within = omega (arith, walk.within, next_is, ap (λ qs. length (plain_of qs)) over.first, length-append w (plain_of ps));
+      some = λ _. omega (arith, far, next_is);
+      few = omega (arith, next_is, walk.few);
+    }
 
-pub place_walk-mark : {t : List ℕ} {a passed at remaining : ℕ} {style next : Rendition} {kind : Kind} {w : List ℕ} {old ps : List Piece} → IsPlaceWalk t a passed remaining style old → IsOverMark kind t w passed at old ps
-    → next ≡ apply style w → IsPlaceWalk t a at remaining next ps
-place_walk-mark {ps = ps} walk over next_is = record {
-  here = offset_walk-mark walk.here over next_is;
-  before = offset_walk-mark walk.before over next_is;
-  within = omega (arith, walk.within, ap (λ qs. length (plain_of qs)) over.first.pieces, ap length (plain_of-mark over.first.mark ps over.first.is_mark));
-  some = walk.some;
-  few = walk.few;
-}
+pub place_walk-mark : {t : List ℕ} {a passed at remaining : ℕ} {style next : Rendition} {link opened : List ℕ} {kind : Kind} {w : List ℕ} {old ps : List Piece} → IsPlaceWalk t a passed remaining style link old → IsOverMark kind t w passed at old ps
+    → next ≡ apply style w → opened ≡ link_after link w → IsPlaceWalk t a at remaining next opened ps
+place_walk-mark {remaining = remaining} {link = link} {ps = ps} walk over next_is opened_is =
+    let mark = over.first.mark in
+    record {
+      here = offset_walk-mark walk.here over next_is;
+      before = offset_walk-mark walk.before over next_is;
+      linked =
+          ap (λ l. state_by_marks link_after l ps (remaining - 1)) (opened_is ∙ ap (link_after link) (sym over.first.bytes))
+          ∙ sym (state_by_marks-mark link_after link mark ps (remaining - 1) over.first.is_mark)
+          ∙ ap (λ qs. state_by_marks link_after link qs (remaining - 1)) (sym over.first.pieces) ∙ walk.linked;
+      within = omega (arith, walk.within, ap (λ qs. length (plain_of qs)) over.first.pieces, ap length (plain_of-mark mark ps over.first.is_mark));
+      some = walk.some;
+      few = walk.few;
+    }
+
+-- an SGR leaves the link as it is
+pub link-sgr : (link w : List ℕ) → is_sgr w ≡ true → link ≡ link_after link w
+link-sgr link w is = sym (ap (λ b. if b then (if opens_link w then w else []) else link) (is_link-sgr w is))
 
 -- the place is in the text that comes next, or right after it
-pub place_walk-last : {t : List ℕ} {a passed at remaining i : ℕ} {style : Rendition} {w : List ℕ} {old ps : List Piece} → IsPlaceWalk t a passed remaining style old → IsOverText t w passed at old ps
-    → remaining ≤ length w → passed < at → i ≡ passed + remaining → (i ≡ place_of a t) × (style ≡ style_at t (a - 1))
-place_walk-last {t} {a} {passed} {at} {remaining} {i} {style} {w} walk over last forward is =
+pub place_walk-last : {t : List ℕ} {a passed at remaining i : ℕ} {style : Rendition} {link w : List ℕ} {old ps : List Piece} → IsPlaceWalk t a passed remaining style link old → IsOverText t w passed at old ps
+    → remaining ≤ length w → passed < at → i ≡ passed + remaining → (i ≡ place_of a t) × (style ≡ style_at t (a - 1)) × (link ≡ link_at t (a - 1))
+place_walk-last {t} {a} {passed} {at} {remaining} {i} {style} {link} {w} {old} {ps} walk over last forward is =
     let inside : remaining - 1 < length w = omega (arith, over.count, forward, last) in
     let found = offset_walk-last walk.before over inside in (
       elim (cases_lt 0 a) [
@@ -261,11 +279,12 @@ place_walk-last {t} {a} {passed} {at} {remaining} {i} {style} {w} walk over last
             is ∙ first.0 ∙ ap (offset_of t) zero_is ∙ sym (place_of-front t a zero_is))
       ],
       found.1,
+      sym (ap (λ qs. state_by_marks link_after link qs (remaining - 1)) over.first ∙ state_by_marks-before link_after link w ps (remaining - 1) inside) ∙ walk.linked,
     )
 
-pub place_walk-boundary : {t : List ℕ} {a passed at remaining i : ℕ} {style : Rendition} {w : List ℕ} {old ps : List Piece} → IsPlaceWalk t a passed remaining style old → IsOverText t w passed at old ps
+pub place_walk-boundary : {t : List ℕ} {a passed at remaining i : ℕ} {style : Rendition} {link w : List ℕ} {old ps : List Piece} → IsPlaceWalk t a passed remaining style link old → IsOverText t w passed at old ps
     → remaining ≤ length w → i ≡ passed + remaining → is_char_boundary (plain t) a ≡ true → IsCharBoundary t at → IsCharBoundary t i
-place_walk-boundary {t} {a} {passed} {at} {remaining} {i} {style} {w} walk over last is good end = elim (cases_lt remaining (length w)) [
+place_walk-boundary {t} {a} {passed} {at} {remaining} {i} {style} {link} {w} walk over last is good end = elim (cases_lt remaining (length w)) [
   | inl inside ↦ offset_walk-boundary walk.here over inside is (boundary_parts (plain t) a good).1
   | inr all ↦ (
       let at_end : at ≡ i = omega (arith, is, last, all, over.count) in
@@ -273,11 +292,14 @@ place_walk-boundary {t} {a} {passed} {at} {remaining} {i} {style} {w} walk over 
 ]
 
 -- there is no plain byte, and the place is at the end
-pub place_walk-end : {t : List ℕ} {a passed remaining : ℕ} {style : Rendition} {old : List Piece} → IsPlaceWalk t a passed remaining style old → old ≡ []
-    → (passed ≡ place_of a t) × (style ≡ style_at t (a - 1))
-place_walk-end {t} {a} {passed} {remaining} {style} walk none =
+pub place_walk-end : {t : List ℕ} {a passed remaining : ℕ} {style : Rendition} {link : List ℕ} {old : List Piece} → IsPlaceWalk t a passed remaining style link old → old ≡ []
+    → (passed ≡ place_of a t) × (style ≡ style_at t (a - 1)) × (link ≡ link_at t (a - 1))
+place_walk-end {t} {a} {passed} {remaining} {style} {link} walk none =
     let out : remaining ≡ 0 = omega (arith, walk.within, ap (λ qs. length (plain_of qs)) none) in
     let here = offset_walk-end walk.here none in
     let before = offset_walk-end walk.before none in
-    let zero_is : a ≡ 0 = elim (cases_lt 0 a) [ inl some ↦ absurd (omega (arith, walk.some some, out)) | inr front ↦ omega arith ] in
-    (here.0 ∙ ap (offset_of t) zero_is ∙ sym (place_of-front t a zero_is), before.2)
+    let zero_is : a ≡ 0 = elim (cases_lt 0 a) [ inl some ↦ absurd (omega (arith, walk.some some, out)) | inr front ↦ omega arith ] in (
+      here.0 ∙ ap (offset_of t) zero_is ∙ sym (place_of-front t a zero_is),
+      before.2,
+      sym (ap (λ qs. state_by_marks link_after link qs (remaining - 1)) none) ∙ walk.linked,
+    )

@@ -4,6 +4,7 @@ ghost use Rattle.std.specs.Prelude.{length, IfOk, IfSome, IsFalse, IsNone, IsOk,
 ghost use Rattle.std.specs.Cow.{cow_str_bytes, IsBorrowedStr};
 ghost use Rattle.ansi_items.specs.Pieces.{pieces_of};
 ghost use Rattle.ansi_items.specs.Plain.{plain, is_text, is_whole};
+ghost use Rattle.ansi_safe.specs.Links.{link_at};
 ghost use Rattle.ansi_search.specs.Matches.{first_match_from};
 ghost use Rattle.ansi_search.specs.Positions.{is_char_boundary, is_good_range};
 ghost use Rattle.ansi_style.specs.Written.{written};
@@ -193,19 +194,19 @@ pub trait AnsiRestyle: AnsiStr {
 
     /// The text with another text in place of a range of its plain text.
     ///
-    /// The new text is in the style of the character before the range; at the front, of the first
-    /// character. Its own sequences come on top of that. Where it ends, the style that it opened
-    /// ends. Each character before the range or after it keeps its style. Every sequence of the
-    /// text stays, those in the range behind the new text. Links of the new text are copied as they
-    /// are: it should close one that it opens, and in a link of the text it ends that link too.
+    /// The new text is in the style and the link of the character before the range; at the front, of
+    /// the first character. Its own sequences come on top of that. Where it ends, the style and the
+    /// link that it opened end. Each character before the range or after it keeps its style and its
+    /// link. Every sequence of the text stays, those in the range behind the new text.
     ///
     /// A range is a pair of positions, which count bytes of the plain text. It is `None` exactly if
     /// `ansi_restyle` would refuse the range: if it ends before it begins, or a position of it is
     /// past the end of the plain text or inside a character.
     ///
     /// It is a borrow if the range ends where it begins and the new text is empty. A borrow and a
-    /// `None` don't allocate. Otherwise it is owned, and at most 251 bytes longer than both texts.
-    /// `Err` means out of memory. Takes time in proportion to both texts. (Own.)
+    /// `None` don't allocate. Otherwise it is owned, and longer than both texts by at most 258 bytes
+    /// and the sequence that opened the link there. `Err` means out of memory. Takes time in
+    /// proportion to both texts. (Own.)
     ///
     /// ```
     /// let replaced = "\x1b[32mgreen\x1b[39m".ansi_replace(rt.alloc(), (1, 3), "\x1b[1mAB");
@@ -228,7 +229,8 @@ pub trait AnsiRestyle: AnsiStr {
         ensures borrowed { IfOk result (λ o. IfSome o (λ c.
             IsBorrowedStr c ↔ ((range.0 ≡ range.1) × (with.now ≡ [])))) }
         ensures len { IfOk result (λ o. IfSome o (λ c.
-            length (cow_str_bytes c) ≤ length (Self.text self.now) + length with.now + 251)) }
+            length (cow_str_bytes c) ≤ length (Self.text self.now) + length with.now
+            + length (link_at (Self.text self.now) (range.0 - 1)) + 258)) }
         ensures takes_no_memory { ((range.0 ≡ range.1) × (with.now ≡ []))
             ⊎ IsFalse (are_in_turn (plain (Self.text self.now)) 0 (range ∷ [])) → IsOk result }
     {
@@ -263,7 +265,8 @@ pub trait AnsiRestyle: AnsiStr {
         ensures borrowed { IfOk result (λ o. IfSome o (λ c.
             IsBorrowedStr c ↔ (with.now ≡ []))) }
         ensures len { IfOk result (λ o. IfSome o (λ c.
-            length (cow_str_bytes c) ≤ length (Self.text self.now) + length with.now + 251)) }
+            length (cow_str_bytes c) ≤ length (Self.text self.now) + length with.now
+            + length (link_at (Self.text self.now) (position - 1)) + 258)) }
         ensures takes_no_memory { (with.now ≡ [])
             ⊎ IsFalse (is_char_boundary (plain (Self.text self.now)) position) → IsOk result }
     {

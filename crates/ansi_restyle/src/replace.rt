@@ -4,18 +4,18 @@ ghost use Rattle.std.specs.Prelude.{IsFalse, IsNone, IsOk, IsTrue, OnOk, string_
 ghost use Rattle.std.specs.Cow.{cow_str_bytes, IsBorrowedStr};
 ghost use Rattle.std.specs.Str.{IsCharBoundary};
 ghost use Rattle.ansi_items.specs.Plain.{plain, is_whole};
+ghost use Rattle.ansi_safe.specs.Links.{link_at};
 ghost use Rattle.ansi_search.specs.Positions.{is_char_boundary};
 ghost use Rattle.ansi_style.specs.States.{rendition_of};
 ghost use Rattle.ansi_style.specs.Styled.{style_at};
 ghost use Rattle.ansi_restyle.specs.Ranges.{are_in_turn};
-ghost use Rattle.ansi_restyle.specs.Replaced.{place_of, put, replaced, IsReplaced};
+ghost use Rattle.ansi_restyle.specs.Replaced.{place_of, link_back, put, replaced, IsReplaced};
 
 use crate::rest::Rest;
 use crate::restyle::are_in_turn;
 use ansi_items::ansitok::{Kind, Scanner};
-use ansi_safe::links::{Pen, pen_after_from};
+use ansi_safe::links::{Pen, link_after, pen_after_from};
 use ansi_slice::slice::{has_any, push_sequences};
-use ansi_style::state::Style;
 use ansi_style::styles;
 use std::alloc::{AllocError, Allocator};
 use std::borrow::CowStr;
@@ -42,7 +42,8 @@ pub fn replace_in<'t, A: Allocator>(
     ensures borrowed { IfOk result (λ o. IfSome o (λ c.
         IsBorrowedStr c ↔ ((range.0 ≡ range.1) × (with.now ≡ [])))) }
     ensures len { IfOk result (λ o. IfSome o (λ c.
-        length (cow_str_bytes c) ≤ length text.now + length with.now + 251)) }
+        length (cow_str_bytes c) ≤ length text.now + length with.now
+        + length (link_at text.now (range.0 - 1)) + 258)) }
     ensures takes_no_memory { ((range.0 ≡ range.1) × (with.now ≡ []))
         ⊎ IsFalse (are_in_turn (plain text.now) 0 (range ∷ [])) → IsOk result }
 {
@@ -57,9 +58,9 @@ pub fn replace_in<'t, A: Allocator>(
     let (before, after) = text.split_at(place.offset);
     let mut replaced = String::with_capacity(alloc, text.len().saturating_add(with.len()))?;
     replaced.push_str(before)?;
-    push_put(&mut replaced, with, &place.style)?;
+    push_put(&mut replaced, with, &place.pen)?;
     let len = end - start;
-    let mut style = place.style;
+    let mut style = place.pen.style;
     let removed = Rest::new(after).split_at(&mut style, len).unwrap();
     push_sequences(&mut replaced, removed.front, len)?;
     replaced.push_str(removed.rest.text)?;
@@ -87,62 +88,80 @@ pub fn insert_in<'t, A: Allocator>(
         cow_str_bytes c ≡ replaced text.now position position with.now)) }
     ensures borrowed { IfOk result (λ o. IfSome o (λ c. IsBorrowedStr c ↔ (with.now ≡ []))) }
     ensures len { IfOk result (λ o. IfSome o (λ c.
-        length (cow_str_bytes c) ≤ length text.now + length with.now + 251)) }
+        length (cow_str_bytes c) ≤ length text.now + length with.now
+        + length (link_at text.now (position - 1)) + 258)) }
     ensures takes_no_memory { (with.now ≡ [])
         ⊎ IsFalse (is_char_boundary (plain text.now) position) → IsOk result }
 {
     replace_in(alloc, text, (position, position), with)
 }
 
-/// Where a text is put in, and the style there.
+/// Where a text is put in, and the style and the link there.
 #[derive(Clone, Copy)]
-struct Place {
+struct Place<'t> {
     offset: usize,
-    style: Style,
+    pen: Pen<'t>,
 }
 
 /// Where a text is put in at a position: right after the character before it, or at the front, right
 /// before the first character.
-fn place_of(text: &str, position: usize) -> Place
+fn place_of(text: &str, position: usize) -> Place<'_>
     requires { IsTrue (is_char_boundary (plain text.now) position) }
     ensures offset { result.offset ≡ place_of position text.now }
     ensures boundary { IsCharBoundary text.now result.offset }
-    ensures style { rendition_of result.style ≡ style_at text.now (position - 1) }
+    ensures style { rendition_of result.pen.style ≡ style_at text.now (position - 1) }
+    ensures link { result.pen.link.now ≡ link_at text.now (position - 1) }
 {
     let mut style = styles::plain_style();
+    let mut link = "";
     let mut remaining = position;
     for item in Scanner::new(text) {
         let piece = &text[item.start..item.end];
         if item.kind == Kind::Text {
             if remaining <= piece.len() {
                 let offset = item.start + remaining;
-                return Place { offset, style };
+                let pen = Pen { style, link };
+                return Place { offset, pen };
             }
             remaining -= piece.len();
         } else if item.kind == Kind::Sgr {
             styles::apply(&mut style, piece);
+        } else {
+            link = link_after(link, piece);
         }
     }
     let offset = text.len();
-    Place { offset, style }
+    let pen = Pen { style, link };
+    Place { offset, pen }
 }
 
-/// Appends a text, and after it, if it has an ESC, the close of the style then, and the start of
-/// the style before it. `Err` means out of memory; what was appended before it stays.
-fn push_put<A: Allocator>(out: &mut String<A>, with: &str, style: &Style) -> Result<(), AllocError>
+/// Appends a text that is put where a pen is. After it, if it has an ESC, come what brings the link
+/// back, the close of the style then, and the start of the style before. `Err` means out of memory;
+/// what was appended before it stays.
+fn push_put<A: Allocator>(out: &mut String<A>, with: &str, pen: &Pen<'_>) -> Result<(), AllocError>
     ensures { OnOk result (string_bytes out.new
-        ≡ string_bytes out.old ++ put (rendition_of style.now) with.now) }
+        ≡ string_bytes out.old ++ put (rendition_of pen.now.style) pen.now.link.now with.now) }
 {
     out.push_str(with)?;
     if !has_any(with) {
         return Ok(());
     }
-    let before = Pen {
-        style: *style,
-        link: "",
-    };
-    let after = pen_after_from(before, with);
+    let after = pen_after_from(*pen, with);
+    out.push_str(link_back(pen, &after))?;
     styles::write_close(&after.style, out)?;
-    styles::write_start(style, out)?;
+    styles::write_start(&pen.style, out)?;
     Ok(())
+}
+
+/// What brings the link of a pen back where another pen is.
+fn link_back<'t>(pen: &Pen<'t>, other: &Pen<'_>) -> &'t str
+    ensures { result.now ≡ link_back pen.now.link.now other.now.link.now }
+{
+    if other.link == pen.link {
+        ""
+    } else if pen.link.is_empty() {
+        other.link_end()
+    } else {
+        pen.link
+    }
 }

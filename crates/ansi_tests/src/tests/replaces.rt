@@ -12,7 +12,7 @@ type Row = (
     Option<&'static str>,
 );
 
-static ROWS: [Row; 24] = [
+static ROWS: [Row; 30] = [
     ("abc", (1, 2), "X", Some("aXc")),
     ("abc", (1, 2), "", Some("ac")),
     ("", (0, 0), "X", Some("X")),
@@ -92,6 +92,43 @@ static ROWS: [Row; 24] = [
         Some("\x1b]8;;u\x1b\\aX\x1b]8;;\x1b\\"),
     ),
     ("ab\x1b[3", (1, 1), "X", Some("aXb\x1b[3")),
+    // the new text is put into a link, or has one
+    (
+        "\x1b]8;;u\x1b\\ab",
+        (1, 1),
+        "\x1b[1mX",
+        Some("\x1b]8;;u\x1b\\a\x1b[1mX\x1b[22mb"),
+    ),
+    (
+        "\x1b]8;;u\x1b\\ab",
+        (1, 1),
+        "\x1b]8;;v\x1b\\X",
+        Some("\x1b]8;;u\x1b\\a\x1b]8;;v\x1b\\X\x1b]8;;u\x1b\\b"),
+    ),
+    (
+        "\x1b]8;;u\x1b\\ab",
+        (1, 1),
+        "\x1b]8;;v\x1b\\X\x1b]8;;\x1b\\",
+        Some("\x1b]8;;u\x1b\\a\x1b]8;;v\x1b\\X\x1b]8;;\x1b\\\x1b]8;;u\x1b\\b"),
+    ),
+    (
+        "ab",
+        (1, 1),
+        "\x1b]8;;v\x1b\\X",
+        Some("a\x1b]8;;v\x1b\\X\x1b]8;;\x1b\\b"),
+    ),
+    (
+        "\x1b]8;;u\x1b\\a\x1b]8;;\x1b\\b",
+        (1, 1),
+        "\x1b]8;;\x07X",
+        Some("\x1b]8;;u\x1b\\a\x1b]8;;\x07X\x1b]8;;u\x1b\\\x1b]8;;\x1b\\b"),
+    ),
+    (
+        "\x1b[31mab",
+        (1, 1),
+        "\x1b]8;;v\x1b\\\x1b[1mX",
+        Some("\x1b[31ma\x1b]8;;v\x1b\\\x1b[1mX\x1b]8;;\x1b\\\x1b[22m\x1b[39m\x1b[31mb"),
+    ),
     // positions
     ("aöb", (1, 3), "o", Some("aob")),
     ("aöb", (1, 2), "o", None),

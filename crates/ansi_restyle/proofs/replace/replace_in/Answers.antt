@@ -27,7 +27,7 @@ returns-then-is_empty-clause-headline g c =
     let good = is_good_range t c.args.range (sym c.are_in_turn.ensures ∙ c.if-not-are_in_turn.false) in
     λ whole. (
     let both = and_parts (is_whole t) (is_whole w) whole in
-    subst (IsReplaced t c.args.range.0 c.args.range.1 w) (sym (returns-then-is_empty-clause-bytes g c)) (is_replaced t c.args.range.0 c.args.range.1 w good.ordered good.within both.0 both.1))
+    subst (IsReplaced t c.args.range.0 c.args.range.1 w) (sym (returns-then-is_empty-clause-bytes g c)) (is_replaced t c.args.range.0 c.args.range.1 w good.ordered good.end_within both.0 both.1))
 
 -- the end of the range is good
 
@@ -55,18 +55,19 @@ returns-clause-bytes g c =
     let place = c.place_of-place.result in
     let before = c.split_at.result.0.now in
     let after = c.new.result.text.now in
-    let s = rendition_of place.style in
+    let s = rendition_of place.pen.style in
+    let link = place.pen.link.now in
     let divided : IsDivided after (b - a) at_end.front.now at_end.rest.text.now = rw c.unwrap-removed.ensures at c.split_at-2.ensures.divided in
     c.in_ok-push_str-2.ensures.bytes
     ∙ ap (λ (u : List ℕ). u ++ at_end.rest.text.now)
     (c.in_ok-push_sequences.ensures.bytes
     ∙ ap (λ (u : List ℕ). u ++ sequences_up_to (b - a) (pieces_of at_end.front.now))
     (c.in_ok-push_put.ensures
-    ∙ ap (λ (u : List ℕ). u ++ put s c.args.with.now) (c.in_ok-push_str.ensures.bytes ∙ ap (λ (u : List ℕ). u ++ before) c.in_ok-replaced.ensures.bytes)))
-    ∙ replaced-written t before after at_end.front.now at_end.rest.text.now c.args.with.now s a b
+    ∙ ap (λ (u : List ℕ). u ++ put s link c.args.with.now) (c.in_ok-push_str.ensures.bytes ∙ ap (λ (u : List ℕ). u ++ before) c.in_ok-replaced.ensures.bytes)))
+    ∙ replaced-written t before after at_end.front.now at_end.rest.text.now c.args.with.now s link a b
     (c.split_at.ensures.front ∙ ap (λ k. take k t) c.place_of-place.ensures.offset)
     (c.new.ensures ∙ c.split_at.ensures.back ∙ ap (λ k. drop k t) c.place_of-place.ensures.offset)
-    c.place_of-place.ensures.style divided
+    c.place_of-place.ensures.style c.place_of-place.ensures.link divided
 
 pub returns-clause-headline : goal.returns-clause-headline
 returns-clause-headline g c =
@@ -75,7 +76,7 @@ returns-clause-headline g c =
     let good = is_good_range t c.args.range (sym c.are_in_turn.ensures ∙ c.if-not-are_in_turn.false) in
     λ whole. (
     let both = and_parts (is_whole t) (is_whole w) whole in
-    subst (IsReplaced t c.args.range.0 c.args.range.1 w) (sym (returns-clause-bytes g c)) (is_replaced t c.args.range.0 c.args.range.1 w good.ordered good.within both.0 both.1))
+    subst (IsReplaced t c.args.range.0 c.args.range.1 w) (sym (returns-clause-bytes g c)) (is_replaced t c.args.range.0 c.args.range.1 w good.ordered good.end_within both.0 both.1))
 
 pub returns-clause-len : goal.returns-clause-len
 returns-clause-len g c = length-replaced c.args.text.now c.args.range.0 c.args.range.1 c.args.with.now (string_bytes c.push_str-2.new.self) (returns-clause-bytes g c)
