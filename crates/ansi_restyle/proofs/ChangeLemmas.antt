@@ -49,14 +49,14 @@ reads-append {s} {q} {r} {bs} {cs} {ks} {ls} {u} {v} first second = record {
 -- The pieces of a run that is changed.
 
 -- the codes after it: the close of the style with the change, and the start of the style before
-abbrev codes_after : List ℕ → Rendition → List (List ℕ)
+abbrev pub codes_after : List ℕ → Rendition → List (List ℕ)
 codes_after codes s = close_codes (apply s (written codes)) ++ start_codes s
 
-abbrev run_pieces : List ℕ → Rendition → List ℕ → List Piece
+abbrev pub run_pieces : List ℕ → Rendition → List ℕ → List Piece
 run_pieces codes s v = Sequence (written codes) ∷ Text v ∷ code_pieces (codes_after codes s)
 
 -- pieces, each run among them changed
-abbrev pieces_changed : List ℕ → Rendition → List Piece → List Piece
+abbrev pub pieces_changed : List ℕ → Rendition → List Piece → List Piece
 pieces_changed codes s [] = []
 pieces_changed codes s (Text v ∷ ps) = run_pieces codes s v ++ pieces_changed codes s ps
 pieces_changed codes s (p ∷ ps) = p ∷ pieces_changed codes (apply s (spelling p)) ps
@@ -74,7 +74,7 @@ spelled-run_pieces codes s v =
     ap (λ u. w ++ (v ++ u)) (spelled-code_pieces (codes_after codes s) ∙ written_all-append (close_codes c) (start_codes s))
     ∙ regroup w v (close c) (start s)
 
-spelled-pieces_changed : (codes : List ℕ) (s : Rendition) (ps : List Piece) → spelled (pieces_changed codes s ps) ≡ changed_pieces (written codes) s ps
+pub spelled-pieces_changed : (codes : List ℕ) (s : Rendition) (ps : List Piece) → spelled (pieces_changed codes s ps) ≡ changed_pieces (written codes) s ps
 spelled-pieces_changed codes s [] = refl
 spelled-pieces_changed codes s (Text v ∷ ps) =
     flat_map-append spelling (run_pieces codes s v) (pieces_changed codes s ps)
@@ -83,12 +83,12 @@ spelled-pieces_changed codes s (p ∷ ps) = ap (λ u. spelling p ++ u) (spelled-
 
 -- They may come before anything.
 
-change_stands : (codes : List ℕ) → is_change codes ≡ true → AllStandAnywhere (Sequence (written codes) ∷ [])
+pub change_stands : (codes : List ℕ) → is_change codes ≡ true → AllStandAnywhere (Sequence (written codes) ∷ [])
 change_stands codes is =
     let n = length (written_all (codes ∷ [])) in
     code_pieces_stand {n = n} (codes ∷ []) (record { each = and_from _ _ is refl; short = omega arith })
 
-codes_after_stand : (codes : List ℕ) (s : Rendition) → IsStyle s → AllStandAnywhere (code_pieces (codes_after codes s))
+pub codes_after_stand : (codes : List ℕ) (s : Rendition) → IsStyle s → AllStandAnywhere (code_pieces (codes_after codes s))
 codes_after_stand codes s is =
     let c = apply s (written codes) in
     subst AllStandAnywhere (sym (map-append (λ code. Sequence (written code)) (close_codes c) (start_codes s)))

@@ -11,6 +11,7 @@ pub mod TurnLemmas
 pub mod EmptyLemmas
 pub mod LengthLemmas
 mod LengthExamples
+pub mod SafeRangeLemmas
 pub mod RemovedLemmas
 pub mod PlaceLemmas
 pub mod LinkedLemmas

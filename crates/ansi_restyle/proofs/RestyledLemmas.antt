@@ -17,7 +17,7 @@ use Rattle.ansi_restyle.proofs.ChangeLemmas.{Reads, reads-itself, reads-append, 
 use Rattle.ansi_restyle.proofs.FrontLemmas.{is_whole-front, is_whole-rest, style_after-front, styled_from-parts, style_after-parts, length-front, plain-rest, kept-parts}
 use Rattle.ansi_restyle.proofs.OtherLemmas.{kept_of, without_sgrs-kept}
 
-drop-further : (x : List ℕ) (n m : ℕ) → n ≤ m → drop (m - n) (drop n x) ≡ drop m x
+pub drop-further : (x : List ℕ) (n m : ℕ) → n ≤ m → drop (m - n) (drop n x) ≡ drop m x
 drop-further x n m before = (let sum : n + (m - n) ≡ m = omega arith in drop-drop (m - n) n x ∙ ap (λ k. drop k x) sum)
 
 pub reads_restyled : (x codes : List ℕ) → is_change codes ≡ true → (rs : List (ℕ × ℕ)) (n : ℕ) (t : List ℕ) (s : Rendition) → IsStyle s → IsTrue (is_whole t) → plain t ≡ drop n x → are_in_turn x n rs ≡ true

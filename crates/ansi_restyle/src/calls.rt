@@ -4,13 +4,15 @@ ghost use Rattle.std.specs.Prelude.{length, IfOk, IfSome, IsFalse, IsNone, IsOk,
 ghost use Rattle.std.specs.Cow.{cow_str_bytes, IsBorrowedStr};
 ghost use Rattle.ansi_items.specs.Pieces.{pieces_of};
 ghost use Rattle.ansi_items.specs.Plain.{plain, is_text, is_whole};
+ghost use Rattle.ansi_safe.specs.declared.policy.Links.{Links};
 ghost use Rattle.ansi_safe.specs.Links.{link_at};
+ghost use Rattle.ansi_safe.specs.Safe.{is_safe};
 ghost use Rattle.ansi_search.specs.Matches.{first_match_from};
 ghost use Rattle.ansi_search.specs.Positions.{is_char_boundary, is_good_range};
 ghost use Rattle.ansi_style.specs.Written.{written};
 ghost use Rattle.ansi_restyle.specs.Links.{has_link, without_links, IsWithoutLinks};
 ghost use Rattle.ansi_restyle.specs.Matches.{matches};
-ghost use Rattle.ansi_restyle.specs.Ranges.{are_in_turn, are_empty};
+ghost use Rattle.ansi_restyle.specs.Ranges.{are_in_turn, are_empty, keep_line_ends};
 ghost use Rattle.ansi_restyle.specs.Removed.{removed, IsRemoved};
 ghost use Rattle.ansi_restyle.specs.Replaced.{replaced, IsReplaced};
 ghost use Rattle.ansi_restyle.specs.Restyled.{is_change, restyled, IsRestyled};
@@ -86,6 +88,9 @@ pub trait AnsiRestyle: AnsiStr {
     /// order and mustn't overlap. It is `None` exactly if a range isn't between two character
     /// boundaries, or begins before the one before it ends, or if the codes have another byte.
     ///
+    /// If the text is safe (`ansi_is_safe`), so is the result, unless a range begins or ends between a
+    /// carriage return and a line feed.
+    ///
     /// It is a borrow if each range is empty. A borrow and a `None` don't allocate. Otherwise it is
     /// owned. For each run of text that a range changes, it is longer by at most 254 bytes and the
     /// length of the codes. `Err` means out of memory. Takes time in proportion to the text and the
@@ -113,6 +118,9 @@ pub trait AnsiRestyle: AnsiStr {
         ensures len { IfOk result (λ o. IfSome o (λ c. length (cow_str_bytes c)
             ≤ length (Self.text self.now) + (length codes.now + 254)
             * (length ranges.now + length (filter is_text (pieces_of (Self.text self.now))) - 1))) }
+        ensures safe { (links : Links) → IsTrue (is_safe links (Self.text self.now)) →
+            IsTrue (keep_line_ends (plain (Self.text self.now)) ranges.now) → IfOk result (λ o.
+            IfSome o (λ c. IsTrue (is_safe links (cow_str_bytes c)))) }
         ensures takes_no_memory { IsTrue (are_empty ranges.now) ⊎ IsFalse
             (is_change codes.now && are_in_turn (plain (Self.text self.now)) 0 ranges.now) →
             IsOk result }
@@ -149,6 +157,10 @@ pub trait AnsiRestyle: AnsiStr {
             ≤ length (Self.text self.now) + (length codes.now + 254)
             * (length (matches (plain (Self.text self.now)) pat.now)
             + length (filter is_text (pieces_of (Self.text self.now))) - 1))) }
+        ensures safe { (links : Links) → IsTrue (is_safe links (Self.text self.now)) →
+            IsTrue (keep_line_ends (plain (Self.text self.now))
+            (matches (plain (Self.text self.now)) pat.now)) → IfOk result (λ o. IfSome o (λ c.
+            IsTrue (is_safe links (cow_str_bytes c)))) }
         ensures takes_no_memory { IsTrue (are_empty (matches (plain (Self.text self.now)) pat.now))
             ⊎ IsFalse (is_change codes.now) → IsOk result }
     {

@@ -9,7 +9,9 @@ ghost use Rattle.ansi_items.specs.Sequences.{is_sgr};
 ghost use Rattle.ansi_style.specs.States.{rendition_of};
 ghost use Rattle.ansi_style.specs.Written.{written};
 ghost use Rattle.ansi_restyle.specs.Matches.{matches};
-ghost use Rattle.ansi_restyle.specs.Ranges.{are_in_turn, are_empty};
+ghost use Rattle.ansi_safe.specs.declared.policy.Links.{Links};
+ghost use Rattle.ansi_safe.specs.Safe.{is_safe};
+ghost use Rattle.ansi_restyle.specs.Ranges.{are_in_turn, are_empty, keep_line_ends};
 ghost use Rattle.ansi_restyle.specs.Restyled.{is_change, changed_run, changed_pieces, restyled, IsRestyled};
 
 use crate::matches::Matches;
@@ -45,6 +47,9 @@ pub fn restyle_in<'t, A: Allocator + Copy>(
     ensures len { IfOk result (λ o. IfSome o (λ c. length (cow_str_bytes c) ≤ length text.now
         + (length codes.now + 254)
         * (length ranges.now + length (filter is_text (pieces_of text.now)) - 1))) }
+    ensures safe { (links : Links) → IsTrue (is_safe links text.now) →
+        IsTrue (keep_line_ends (plain text.now) ranges.now) → IfOk result (λ o.
+        IfSome o (λ c. IsTrue (is_safe links (cow_str_bytes c)))) }
     ensures takes_no_memory { IsTrue (are_empty ranges.now)
         ⊎ IsFalse (is_change codes.now && are_in_turn (plain text.now) 0 ranges.now) →
         IsOk result }
@@ -84,6 +89,9 @@ pub fn mark_in<'t, A: Allocator + Copy>(
     ensures len { IfOk result (λ o. IfSome o (λ c. length (cow_str_bytes c) ≤ length text.now
         + (length codes.now + 254) * (length (matches (plain text.now) pat.now)
         + length (filter is_text (pieces_of text.now)) - 1))) }
+    ensures safe { (links : Links) → IsTrue (is_safe links text.now) →
+        IsTrue (keep_line_ends (plain text.now) (matches (plain text.now) pat.now)) →
+        IfOk result (λ o. IfSome o (λ c. IsTrue (is_safe links (cow_str_bytes c)))) }
     ensures takes_no_memory { IsTrue (are_empty (matches (plain text.now) pat.now))
         ⊎ IsFalse (is_change codes.now) → IsOk result }
 {

@@ -1,8 +1,9 @@
-use Rattle.std.proofs.Common.{inl, inr, sym, ◌∙◌, subst}
+use Rattle.std.proofs.Common.{inl, inr, sym, ◌∙◌, subst, IsTrue}
 use Rattle.ansi_items.specs.Plain.{plain}
 use Rattle.ansi_items.proofs.Utf8Lemmas.{IsUtf8-plain}
 use Rattle.ansi_style.specs.Written.{written}
 use Rattle.ansi_restyle.specs.Matches.{matches}
+use Rattle.ansi_restyle.specs.Ranges.{keep_line_ends}
 use Rattle.ansi_restyle.specs.Restyled.{IsRestyled}
 use Rattle.ansi_restyle.proofs.EmptyLemmas.{restyled-empty}
 use Rattle.ansi_restyle.proofs.MatchLemmas.{matches_in_turn, matches-empty, matches-filled}
@@ -40,3 +41,10 @@ returns-in_err-ranges-clause-takes_no_memory g c =
           absurd (cc (c.in_err-ranges.ensures.takes_no_memory nothing)))
       | inr refused ↦ absurd (cc (refused, c.is_change.ensures, c.if-not-is_change.false))
     ]
+
+-- the matches are the ranges
+pub returns-clause-safe : goal.returns-clause-safe
+returns-clause-safe g c =
+    let x = plain c.args.text.now in
+    let is = c.as_slice.ensures.value ∙ c.in_ok-ranges.ensures.matches in
+    λ links safe kept. c.restyle_in.ensures.safe links safe (subst (λ rs. IsTrue (keep_line_ends x rs)) (sym is) kept)

@@ -1,11 +1,13 @@
 use Rattle.std.proofs.Common.{◌++◌, sym, ◌∙◌, ap₂, subst, IsTrue, string_bytes}
 use Rattle.ansi_items.specs.Sequences.{is_sgr}
 use Rattle.ansi_style.specs.Written.{written}
+use Rattle.ansi_safe.specs.Safe.{is_safe}
 use Rattle.ansi_restyle.specs.Restyled.{restyled, IsRestyled}
 use Rattle.ansi_restyle.proofs.OtherLemmas.{change_is_sgr}
 use Rattle.ansi_restyle.proofs.RestyledLemmas.{is_restyled}
 use Rattle.ansi_restyle.proofs.EmptyLemmas.{restyled-empty}
 use Rattle.ansi_restyle.proofs.LengthLemmas.{length-restyled}
+use Rattle.ansi_restyle.proofs.SafeRangeLemmas.{safe-restyled}
 use Rattle.ansi_restyle.proofs.restyle.restyle_in.Goals as goal
 
 -- empty ranges change nothing
@@ -43,3 +45,9 @@ returns-clause-headline g c =
 
 pub returns-clause-len : goal.returns-clause-len
 returns-clause-len g c = length-restyled c.args.text.now c.args.codes.now c.args.ranges.now (string_bytes c.push_restyled.new.out) (returns-clause-bytes g c)
+
+-- and safe, if no range parts a line end
+pub returns-clause-safe : goal.returns-clause-safe
+returns-clause-safe g c =
+    λ links safe kept. subst (λ u. IsTrue (is_safe links u)) (sym (returns-clause-bytes g c))
+    (safe-restyled links c.args.text.now c.args.codes.now c.args.ranges.now c.utf8.text (sym c.is_change.ensures ∙ c.if-not-is_change.false) (sym c.are_in_turn.ensures ∙ c.if-not-are_in_turn.false) safe kept)
