@@ -18,3 +18,5 @@ pub mod LinkedLemmas
 pub mod ReplacedLemmas
 pub mod ReplaceLawLemmas
 pub mod WithoutLinksLemmas
+pub mod AddressLemmas
+pub mod LinkWalkLemmas

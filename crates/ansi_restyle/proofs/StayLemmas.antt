@@ -46,7 +46,7 @@ others-pieces t (p ∷ ps) are = others-mark p ps (λ qs. marks_of-mark p qs ref
 
 -- Texts that touch may be joined.
 
-further_twice : (n k : ℕ) (ms : List Mark) → map (mark_further_on n) (map (mark_further_on k) ms) ≡ map (mark_further_on (n + k)) ms
+pub further_twice : (n k : ℕ) (ms : List Mark) → map (mark_further_on n) (map (mark_further_on k) ms) ≡ map (mark_further_on (n + k)) ms
 further_twice n k [] = refl
 further_twice n k (m ∷ ms) = (let sum : n + (k + m.place) ≡ n + k + m.place = omega arith in ap₂ (λ i ks. record m { place = i } ∷ ks) sum (further_twice n k ms))
 

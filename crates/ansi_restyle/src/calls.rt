@@ -10,14 +10,14 @@ ghost use Rattle.ansi_safe.specs.Safe.{is_safe};
 ghost use Rattle.ansi_search.specs.Matches.{first_match_from};
 ghost use Rattle.ansi_search.specs.Positions.{is_char_boundary, is_good_range};
 ghost use Rattle.ansi_style.specs.Written.{written};
-ghost use Rattle.ansi_restyle.specs.Links.{has_link, without_links, IsWithoutLinks};
+ghost use Rattle.ansi_restyle.specs.Links.{has_link, links, without_links, IsWithoutLinks};
 ghost use Rattle.ansi_restyle.specs.Matches.{matches};
 ghost use Rattle.ansi_restyle.specs.Ranges.{are_in_turn, are_empty, keep_line_ends};
 ghost use Rattle.ansi_restyle.specs.Removed.{removed, IsRemoved};
 ghost use Rattle.ansi_restyle.specs.Replaced.{replaced, IsReplaced};
 ghost use Rattle.ansi_restyle.specs.Restyled.{is_change, restyled, IsRestyled};
 
-use crate::links::unlink_in;
+use crate::links::{Links, unlink_in};
 use crate::matches::{Matches, find_from};
 use crate::remove::remove_in;
 use crate::replace::{insert_in, replace_in};
@@ -26,8 +26,8 @@ use ansi_str::AnsiStr;
 use std::alloc::{AllocError, Global};
 use std::borrow::CowStr;
 
-/// The matches of a pattern in a text, parts of a text in another style, and a text without a part,
-/// with another text in its place, or without its links.
+/// The matches of a pattern in a text and its links, parts of a text in another style, and a text
+/// without a part, with another text in its place, or without its links.
 ///
 /// Implemented for every type that implements [`AnsiStr`]. The results depend on the text alone,
 /// not on its type.
@@ -283,6 +283,23 @@ pub trait AnsiRestyle: AnsiStr {
             ⊎ IsFalse (is_char_boundary (plain (Self.text self.now)) position) → IsOk result }
     {
         insert_in(alloc, self.as_text(), position, with)
+    }
+
+    /// The links of the text, in order: an iterator over the range and the address of each.
+    ///
+    /// A link sequence (OSC 8) with an address opens a link, which goes on up to the next link
+    /// sequence or the end of the text. A link without text is left out. The range counts bytes of
+    /// the plain text. Takes time in proportion to the text. Doesn't allocate. (Own.)
+    ///
+    /// ```
+    /// let mut links = "a \x1b]8;;http://x\x1b\\l\x1b[1mink\x1b]8;;\x1b\\".ansi_links();
+    /// assert!(rt; matches!(links.next(), Some(link) if link.range == (2, 6) && link.address == "http://x"));
+    /// assert!(rt; links.next().is_none());
+    /// ```
+    final fn ansi_links(&self) -> Links<'_>
+        ensures { result ≡ links (Self.text self.now) }
+    {
+        Links::new(self.as_text())
     }
 
     /// The text without its links.

@@ -1,15 +1,171 @@
 //! The links of a text.
-ghost use Rattle.std.specs.Prelude.{◌≡◌, ◌↔◌, ◌≤◌, ◌++◌, length, IfOk, IsFalse, IsOk, IsTrue, OnOk};
-ghost use Rattle.std.specs.Prelude.{string_bytes};
+ghost use Rattle.std.specs.Prelude.{◌≡◌, ◌↔◌, ◌≤◌, ◌<◌, ◌+◌, ◌^◌, ◌∷◌, ◌++◌, ◌&&◌, [], length, IfOk, IsFalse, IsOk};
+ghost use Rattle.std.specs.Prelude.{IfSome, IsTrue, MatchOption, OnOk, nat_lt, string_bytes};
 ghost use Rattle.std.specs.Cow.{cow_str_bytes, IsBorrowedStr};
-ghost use Rattle.ansi_items.specs.Plain.{is_whole};
+ghost use Rattle.std.specs.Option.{option_map};
+ghost use Rattle.ansi_items.specs.Plain.{plain, is_whole};
+ghost use Rattle.ansi_items.specs.Sequences.{IsSequence};
+ghost use Rattle.ansi_safe.specs.Links.{address_of, is_link};
 ghost use Rattle.ansi_restyle.specs.Links.{has_link, without_links, IsWithoutLinks};
-ghost use Rattle.ansi_safe.specs.Links.{is_link};
+ghost use Rattle.ansi_restyle.specs.Links.{linked_range, links, links_of_walk};
 
-use ansi_items::ansitok::Scanner;
-use ansi_safe::links::address_of;
+use ansi_items::ansitok::{Kind, Scanner};
+use ansi_safe::links::{address_of, terminator_len};
 use std::alloc::{AllocError, Allocator};
 use std::borrow::CowStr;
+use std::marker::Model;
+
+/// A link of a text: the range of the plain text that it links, and its address.
+#[derive(Debug, Clone, Copy, PartialEq, Eq)]
+pub struct Link<'t> {
+    /// Where its text begins and ends, in bytes of the plain text.
+    pub range: (usize, usize),
+    /// Its address, which isn't empty.
+    pub address: &'t str,
+}
+
+/// The links of a text, in order.
+///
+/// After the last link `next` always returns `None`.
+#[derive(Drop)]
+pub struct Links<'t> {
+    walk: LinkWalk<'t>,
+}
+
+/// A place of a text, and the link that is open there.
+#[derive(Clone, Copy)]
+struct LinkWalk<'t> {
+    /// The text from there on.
+    rest: &'t str,
+    /// How many bytes of the plain text are before it.
+    position: usize,
+    /// Where the link begins, if one is open.
+    start: usize,
+    /// Its address, which is empty if no link is open.
+    address: &'t str,
+}
+
+impl<'t> Model for Links<'t> {
+    ghost use Rattle.std.specs.Prelude.{List, ◌+◌, ◌<◌, ◌^◌, length};
+    ghost use Rattle.ansi_items.specs.Plain.{plain};
+    ghost use Rattle.ansi_restyle.specs.Links.{LinkedRange, links_of_walk};
+
+    ghost Value = { List LinkedRange };
+
+    ghost view = { λ s. links_of_walk s.walk };
+
+    ghost invariant = { λ s. s.walk.position + length (plain s.walk.rest.now) < 2 ^ 64 };
+}
+
+impl<'t> Links<'t> {
+    /// Like `AnsiRestyle::ansi_links`.
+    ///
+    /// ```
+    /// let mut links = Links::new("a \x1b]8;;http://x\x1b\\link\x1b]8;;\x1b\\");
+    /// assert!(rt; matches!(links.next(), Some(link) if link.range == (2, 6) && link.address == "http://x"));
+    /// assert!(rt; links.next().is_none());
+    /// ```
+    pub fn new(text: &'t str) -> Links<'t>
+        ensures { result ≡ links text.now }
+    {
+        Links {
+            walk: LinkWalk {
+                rest: text,
+                position: 0,
+                start: 0,
+                address: "",
+            },
+        }
+    }
+}
+
+impl<'t> Iterator for Links<'t> {
+    ghost use Rattle.std.specs.Iterator.{YieldsFirstBy, item_count};
+    ghost use Rattle.ansi_restyle.specs.Links.{linked_range};
+
+    type Item = Link<'t>;
+
+    ghost next_gives = { YieldsFirstBy linked_range (λ s. s) };
+
+    ghost remaining = { item_count (λ s. s) };
+
+    fn next(&mut self) -> Option<Link<'t>> {
+        let (link, walk) = first_link(self.walk)?;
+        self.walk = walk;
+        Some(link)
+    }
+}
+
+/// The first link that ends after a place, and where it ends.
+fn first_link<'t>(walk: LinkWalk<'t>) -> Option<(Link<'t>, LinkWalk<'t>)>
+    requires { walk.position + length (plain walk.rest.now) < 2 ^ 64 }
+    ensures first { MatchOption result (links_of_walk walk.entry ≡ [])
+        (λ (link, after). links_of_walk walk.entry ≡ linked_range link ∷ links_of_walk after) }
+    ensures fits { IfSome result (λ (_, after).
+        after.position + length (plain after.rest.now) < 2 ^ 64) }
+{
+    let text = walk.rest;
+    let mut position = walk.position;
+    let mut start = walk.start;
+    let mut address = walk.address;
+    for item in Scanner::new(text) {
+        let piece = &text[item.start..item.end];
+        if item.kind == Kind::Text {
+            position += piece.len();
+        } else if item.kind == Kind::Other {
+            if let Some(next) = address_in(piece) {
+                let ended = Link {
+                    range: (start, position),
+                    address,
+                };
+                start = position;
+                address = next;
+                if links_text(&ended) {
+                    let after = LinkWalk {
+                        rest: &text[item.end..],
+                        position,
+                        start,
+                        address,
+                    };
+                    return Some((ended, after));
+                }
+            }
+        }
+    }
+    let last = Link {
+        range: (start, position),
+        address,
+    };
+    let after = LinkWalk {
+        rest: "",
+        position,
+        start: position,
+        address: "",
+    };
+    if links_text(&last) {
+        Some((last, after))
+    } else {
+        None
+    }
+}
+
+/// Whether there is text in the range, and an address.
+fn links_text(link: &Link) -> bool
+    ensures { result ≡ (nat_lt link.now.range.0 link.now.range.1
+        && nat_lt 0 (length link.now.address.now)) }
+{
+    link.range.0 < link.range.1 && !link.address.is_empty()
+}
+
+/// The address of a whole sequence if it is a link sequence.
+fn address_in(sequence: &str) -> Option<&str>
+    requires { IsSequence sequence.now }
+    ensures { option_map (λ a. a.now) result ≡ address_of sequence.now }
+{
+    let address = address_of(sequence.as_bytes())?;
+    let end = sequence.len() - terminator_len(sequence.as_bytes());
+    Some(&sequence[end - address.len()..end])
+}
 
 /// Like `AnsiRestyle::ansi_unlink`, with a result that lives as long as the text, and with any
 /// allocator.

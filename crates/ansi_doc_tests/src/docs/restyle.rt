@@ -1,6 +1,6 @@
 //! The examples of the docs of `ansi_restyle`, in the same words.
 use ansi_restyle::AnsiRestyle;
-use ansi_restyle::links::unlink_in;
+use ansi_restyle::links::{Links, unlink_in};
 use ansi_restyle::matches::Matches;
 use ansi_restyle::remove::remove_in;
 use ansi_restyle::replace::{insert_in, replace_in};
@@ -128,4 +128,22 @@ fn unlink_in_example(rt: HostRuntime) {
 fn ansi_unlink_example(rt: HostRuntime) {
     let bare = "\x1b]8;;http://x\x1b\\a \x1b[1mlink\x1b[0m\x1b]8;;\x1b\\".ansi_unlink(rt.alloc());
     assert!(rt; matches!(&bare, Ok(bare) if bare.as_str() == "a \x1b[1mlink\x1b[0m"));
+}
+
+#[test]
+fn links_example(rt: HostRuntime) {
+    let mut links = Links::new("a \x1b]8;;http://x\x1b\\link\x1b]8;;\x1b\\");
+    assert!(rt;
+        matches!(links.next(), Some(link) if link.range == (2, 6) && link.address == "http://x")
+    );
+    assert!(rt; links.next().is_none());
+}
+
+#[test]
+fn ansi_links_example(rt: HostRuntime) {
+    let mut links = "a \x1b]8;;http://x\x1b\\l\x1b[1mink\x1b]8;;\x1b\\".ansi_links();
+    assert!(rt;
+        matches!(links.next(), Some(link) if link.range == (2, 6) && link.address == "http://x")
+    );
+    assert!(rt; links.next().is_none());
 }
