@@ -15,6 +15,7 @@ pub mod SafeRangeLemmas
 pub mod RemovedLemmas
 pub mod PlaceLemmas
 pub mod LinkedLemmas
+pub mod IsRemovedLemmas
 pub mod ReplacedLemmas
 pub mod ReplaceLawLemmas
 pub mod WithoutLinksLemmas

@@ -26,7 +26,8 @@ use Rattle.ansi_safe.specs.Links.{is_link, opens_link, link_of, link_at, link_af
 use Rattle.ansi_safe.proofs.LinkLemmas.{link_through, link_through-codes, link_after_all-none, link_of-fold, is_link-sgr}
 use Rattle.ansi_restyle.specs.Restyled.{front, rest}
 use Rattle.ansi_restyle.specs.Removed.{sequences}
-use Rattle.ansi_restyle.specs.Replaced.{place_of, links_in, links_from, link_back}
+use Rattle.ansi_restyle.specs.Linked.{links_in, links_from}
+use Rattle.ansi_restyle.specs.Replaced.{place_of, link_back}
 use Rattle.ansi_restyle.proofs.FrontLemmas.{is_whole-front, is_whole-rest, length-styled_from}
 use Rattle.ansi_restyle.proofs.RemovedLemmas.{mark_pieces, stand}
 use Rattle.ansi_restyle.proofs.PlaceLemmas.{is_place, place_of-front, place_of-later, begins, one, up_to_byte, whole-bare, take_seam, drop_seam}
@@ -122,6 +123,20 @@ sees-codes l xs all =
     (subst (λ ls. SeesLinks l (link_through l (code_pieces xs)) ls (spelled (code_pieces xs))) (links-codes l xs) (sees-spelled l (code_pieces xs) all))
 
 -- A text in two after its first n plain bytes.
+
+pub sees-front : (l t : List ℕ) (n : ℕ) → n ≤ length (plain t) → IsTrue (is_whole t) → SeesLinks l (link_after_all l (marks (front n t))) (take n (links_from l t)) (front n t)
+sees-front l t n within whole =
+    let f = front n t in
+    let g = rest n t in
+    let m = link_after_all l (marks f) in
+    let whole_f = is_whole-front t n whole in
+    let is : f ++ g ≡ t = take-append-drop (offset_of t n) t in
+    let size : length (links_from l f) ≡ n = length-links_from l f ∙ ap length (is_cut_after t n (offset_of t n) refl).plain_front ∙ length-take-le n (plain t) within in
+    record {
+      whole = whole_f;
+      given = sym (ap (λ u. take n (links_from l u)) (sym is) ∙ ap (take n) (links_from-append l f g whole_f (is_whole-rest t n whole)) ∙ take_seam n (links_from l f) (links_from m g) size);
+      left = refl;
+    }
 
 pub sees-rest : (l t : List ℕ) (n : ℕ) → n ≤ length (plain t) → IsTrue (is_whole t)
     → SeesLinks (link_after_all l (marks (front n t))) (link_after_all l (marks t)) (drop n (links_from l t)) (rest n t)

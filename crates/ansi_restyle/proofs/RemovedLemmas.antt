@@ -1,22 +1,20 @@
 -- What is left of a text without a range of its plain text.
-use Rattle.std.proofs.Common.{◌≡◌, ℕ, ◌+◌, ◌-◌, ◌≤◌, min, inl, inr, Bool, false, not, ◌&&◌, List, [], ◌∷◌, ◌++◌, length, filter, take, drop, refl, sym, ◌∙◌, ap, ap₂, arith, IsTrue, append-nil, append_assoc, length-append, nat_le}
+use Rattle.std.proofs.Common.{◌≡◌, ℕ, ◌+◌, ◌-◌, ◌≤◌, min, inl, inr, Bool, false, not, ◌&&◌, List, [], ◌∷◌, ◌++◌, length, filter, take, drop, refl, sym, ◌∙◌, ap, ap₂, arith, IsTrue, append-nil, length-append, nat_le}
 use Rattle.std.proofs.Math.Bool.{and-true}
 use Rattle.std.proofs.lemmas.Bool.{cases_lt, le-leb}
 use Rattle.std.proofs.lemmas.Grind.{flat_map-append}
-use Rattle.std.proofs.lemmas.List.{take-append-drop, take-append-le, take_all, drop_all, nil_from_length, map-append, length-take, drop-drop}
+use Rattle.std.proofs.lemmas.List.{take-append-drop, take-append-le, take_all, drop_all, nil_from_length, length-take}
 use Rattle.std.proofs.lemmas.List.Elements.{filter-append}
-use Rattle.std.specs.List.{take-map, drop-map}
 use Rattle.ansi_items.specs.Pieces.{Piece, Text, spelling, pieces_of, after_text, merged}
 use Rattle.ansi_items.specs.Plain.{plain, plain_of, joined, marks_of, marks_up_to, is_text, is_whole}
-use Rattle.ansi_items.proofs.JoinLemmas.{spelled, AllStandAnywhere, pieces_of-spelled, pieces_of-append, is_whole-spelled, is_whole-append, pieces_stand, spelled-pieces_of}
+use Rattle.ansi_items.proofs.JoinLemmas.{spelled, AllStandAnywhere, pieces_of-spelled, pieces_of-append, is_whole-spelled, pieces_stand, spelled-pieces_of}
 use Rattle.ansi_style.specs.declared.state.rendition.Rendition.{Rendition}
-use Rattle.ansi_style.specs.Rendition.{plain_style, known}
 use Rattle.ansi_style.specs.Sgr.{apply}
 use Rattle.ansi_style.specs.Reading.{style_within, styled_from, style_after_from}
-use Rattle.ansi_style.specs.Styled.{StyledByte, styled, unstyled}
+use Rattle.ansi_style.specs.Styled.{StyledByte}
 use Rattle.ansi_style.proofs.MarkLemmas.{marks_of-mark, marks_up_to-here}
-use Rattle.ansi_style.proofs.StyledLemmas.{style_through, styled_through, style_after_from-pieces, unstyled-styled}
-use Rattle.ansi_style.proofs.SpelledLemmas.{styled_from-spelled, style_after_from-spelled, styled_from-append, style_after_from-append}
+use Rattle.ansi_style.proofs.StyledLemmas.{style_through, styled_through, style_after_from-pieces}
+use Rattle.ansi_style.proofs.SpelledLemmas.{styled_from-spelled, style_after_from-spelled}
 use Rattle.ansi_search.specs.Offsets.{offset_of}
 use Rattle.ansi_search.specs.Positions.{is_char_boundary, no_character_goes_on}
 use Rattle.ansi_search.proofs.SliceLemmas.{drop-append}
@@ -26,9 +24,9 @@ use Rattle.ansi_split.proofs.AfterLemmas.{is_cut_after}
 use Rattle.ansi_restyle.specs.Rests.{IsDivided}
 use Rattle.ansi_restyle.specs.Ranges.{are_in_turn}
 use Rattle.ansi_restyle.specs.Restyled.{front, rest}
-use Rattle.ansi_restyle.specs.Removed.{sequences, removed, IsRemoved}
+use Rattle.ansi_restyle.specs.Removed.{sequences, removed}
 use Rattle.ansi_restyle.proofs.EmptyLemmas.{offset-rest}
-use Rattle.ansi_restyle.proofs.FrontLemmas.{is_whole-front, is_whole-rest, style_after-front, styled_from-parts, style_after-parts, length-styled_from, plain-rest}
+use Rattle.ansi_restyle.proofs.FrontLemmas.{is_whole-front, is_whole-rest, styled_from-parts, length-styled_from, plain-rest}
 use Rattle.ansi_restyle.proofs.TurnLemmas.{IsLeft, goes_on-left}
 use Rattle.ansi_restyle.proofs.LengthLemmas.{length-both}
 use Rattle.ansi_restyle.proofs.StayLemmas.{filter_stand}
@@ -161,17 +159,17 @@ marks-twice [] = refl
 marks-twice (Text w ∷ ps) = marks-twice ps
 marks-twice (p ∷ ps) = ap (λ qs. p ∷ qs) (marks-twice ps)
 
-sequences-append : (u v : List ℕ) → IsTrue (is_whole u) → IsTrue (is_whole v) → sequences (u ++ v) ≡ sequences u ++ sequences v
+pub sequences-append : (u v : List ℕ) → IsTrue (is_whole u) → IsTrue (is_whole v) → sequences (u ++ v) ≡ sequences u ++ sequences v
 sequences-append u v whole_u whole_v =
     ap spelled_marks (pieces_of-append u v whole_u whole_v) ∙ marks-merged (pieces_of u ++ pieces_of v)
     ∙ ap spelled (filter-append (λ p. not (is_text p)) (pieces_of u) (pieces_of v))
     ∙ flat_map-append spelling (mark_pieces (pieces_of u)) (mark_pieces (pieces_of v))
 
-sequences-twice : (t : List ℕ) → IsTrue (is_whole t) → sequences (sequences t) ≡ sequences t
+pub sequences-twice : (t : List ℕ) → IsTrue (is_whole t) → sequences (sequences t) ≡ sequences t
 sequences-twice t whole =
     ap spelled_marks (pieces_of-spelled (mark_pieces (pieces_of t)) (stand t whole)) ∙ marks-merged (mark_pieces (pieces_of t)) ∙ ap spelled (marks-twice (pieces_of t))
 
-sequences-parts : (t : List ℕ) (n : ℕ) → IsTrue (is_whole t) → sequences t ≡ sequences (front n t) ++ sequences (rest n t)
+pub sequences-parts : (t : List ℕ) (n : ℕ) → IsTrue (is_whole t) → sequences t ≡ sequences (front n t) ++ sequences (rest n t)
 sequences-parts t n whole = ap sequences (sym (take-append-drop (offset_of t n) t)) ∙ sequences-append (front n t) (rest n t) (is_whole-front t n whole) (is_whole-rest t n whole)
 
 -- The styled bytes of a front and of the rest.
@@ -208,52 +206,3 @@ styled_from-front s t n whole =
 pub styled_from-rest : (s : Rendition) (t : List ℕ) (n : ℕ) → IsTrue (is_whole t) → styled_from (style_within s t n) (rest n t) ≡ drop n (styled_from s t)
 styled_from-rest s t n whole =
     sym (ap (drop n) (styled_from-parts s t n whole) ∙ drop_parts n (styled_from s (front n t)) (styled_from (style_within s t n) (rest n t)) (size-front s t n whole))
-
--- So a range is removed of a whole text.
-
-unstyled-parts : (bs cs : List StyledByte) (a b : ℕ) → bs ≡ take a cs ++ drop b cs → unstyled bs ≡ take a (unstyled cs) ++ drop b (unstyled cs)
-unstyled-parts bs cs a b is =
-    let byte = λ (c : StyledByte). c.byte in
-    ap unstyled is ∙ map-append byte (take a cs) (drop b cs) ∙ ap₂ (λ u v. u ++ v) (sym (take-map byte a cs)) (sym (drop-map byte b cs))
-
-pub is_removed : (t : List ℕ) (a b : ℕ) → a ≤ b → IsTrue (is_whole t) → IsRemoved t a b (removed t a b)
-is_removed t a b ordered whole =
-    let n = b - a in
-    let here = rest a t in
-    let part = front n here in
-    let last = rest n here in
-    let s = style_within plain_style t a in
-    let q = style_within s here n in
-    let f = front a t in
-    let g = sequences part in
-    let whole_f = is_whole-front t a whole in
-    let whole_here = is_whole-rest t a whole in
-    let whole_part = is_whole-front here n whole_here in
-    let whole_last = is_whole-rest here n whole_here in
-    let whole_g = is_whole-sequences part whole_part in
-    let whole_fg = is_whole-append f g whole_f whole_g in
-    let after_f : style_after_from plain_style f ≡ s = style_after-front plain_style t a in
-    let after_g : style_after_from s g ≡ q = style_after-sequences part whole_part s ∙ style_after-front s here n in
-    let after_fg : style_after_from plain_style (f ++ g) ≡ q = style_after_from-append plain_style f g whole_f whole_g ∙ ap (λ r. style_after_from r g) after_f ∙ after_g in
-    let bytes_fg : styled_from plain_style (f ++ g) ≡ take a (styled t)
-    = styled_from-append plain_style f g whole_f whole_g
-    ∙ ap (λ v. styled_from plain_style f ++ v) (styled_from-sequences part whole_part (style_after_from plain_style f))
-    ∙ append-nil (styled_from plain_style f) ∙ styled_from-front plain_style t a whole in
-    let sum : a + n ≡ b = omega (arith, ordered) in
-    let bytes_last : styled_from q last ≡ drop b (styled t)
-    = styled_from-rest s here n whole_here ∙ ap (drop n) (styled_from-rest plain_style t a whole) ∙ drop-drop n a (styled t) ∙ ap (λ k. drop k (styled t)) sum in
-    let bytes : styled (removed t a b) ≡ take a (styled t) ++ drop b (styled t)
-    = styled_from-append plain_style (f ++ g) last whole_fg whole_last ∙ ap₂ (λ u v. u ++ v) bytes_fg (ap (λ r. styled_from r last) after_fg ∙ bytes_last) in
-    record {
-      styled_bytes = bytes;
-      plain_text = sym (unstyled-styled (removed t a b)) ∙ unstyled-parts (styled (removed t a b)) (styled t) a b bytes ∙ ap (λ x. take a x ++ drop b x) (unstyled-styled t);
-      all_sequences = sequences-append (f ++ g) last whole_fg whole_last
-          ∙ ap (λ u. u ++ sequences last) (sequences-append f g whole_f whole_g ∙ ap (λ u. sequences f ++ u) (sequences-twice part whole_part))
-          ∙ append_assoc (sequences f) g (sequences last)
-          ∙ sym (sequences-parts t a whole ∙ ap (λ u. sequences f ++ u) (sequences-parts here n whole_here));
-      whole = is_whole-append (f ++ g) last whole_fg whole_last;
-      open_at_end =
-          ap known (
-          style_after_from-append plain_style (f ++ g) last whole_fg whole_last ∙ ap (λ r. style_after_from r last) after_fg
-          ∙ sym (style_after-parts plain_style t a whole ∙ style_after-parts s here n whole_here));
-    }

@@ -37,7 +37,8 @@ use Rattle.ansi_restyle.specs.Ranges.{are_in_turn}
 use Rattle.ansi_restyle.specs.Rests.{IsDivided}
 use Rattle.ansi_restyle.specs.Restyled.{front, rest}
 use Rattle.ansi_restyle.specs.Removed.{sequences}
-use Rattle.ansi_restyle.specs.Replaced.{place_of, links_in, links_from, link_back, put, replaced, IsReplaced}
+use Rattle.ansi_restyle.specs.Linked.{links_in, links_from}
+use Rattle.ansi_restyle.specs.Replaced.{place_of, link_back, put, replaced, IsReplaced}
 use Rattle.ansi_restyle.proofs.OtherLemmas.{kept_of}
 use Rattle.ansi_restyle.proofs.StayLemmas.{others, others-further}
 use Rattle.ansi_restyle.proofs.ChangeLemmas.{Reads, reads-itself, reads-append, written_all-append}

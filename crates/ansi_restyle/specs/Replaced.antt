@@ -1,28 +1,20 @@
 -- A text with another text in place of a range of its plain text.
-use Rattle.std.specs.Prelude.{◌≡◌, ℕ, ◌+◌, ◌-◌, ◌==◌, List, [], ◌++◌, length, map, take, drop, IsTrue, if◌then◌else◌}
-use Rattle.std.specs.List.{range_with_len}
+use Rattle.std.specs.Prelude.{◌≡◌, ℕ, ◌+◌, ◌-◌, ◌==◌, List, [], ◌++◌, length, take, drop, IsTrue, if◌then◌else◌}
 use Rattle.std.specs.Str.{bytes_eq}
-use Rattle.ansi_items.specs.Plain.{plain, marks, marks_up_to, is_whole, has_escape, joined}
+use Rattle.ansi_items.specs.Plain.{plain, marks, is_whole, has_escape, joined}
 use Rattle.ansi_style.specs.declared.state.rendition.Rendition.{Rendition}
 use Rattle.ansi_style.specs.Reading.{style_after_from, styled_from}
 use Rattle.ansi_style.specs.Styled.{styled, style_at, residue}
 use Rattle.ansi_style.specs.Written.{start, close}
 use Rattle.ansi_search.specs.Offsets.{offset_of}
 use Rattle.ansi_safe.specs.Links.{link_of, link_at, link_after_all, link_end}
+use Rattle.ansi_restyle.specs.Linked.{links_in, links_from}
 use Rattle.ansi_restyle.specs.Restyled.{front, rest, other_marks}
 use Rattle.ansi_restyle.specs.Removed.{sequences}
 
 -- where text is put at the position a of the plain text of t: right after the plain byte before it; at the front, right before the first one
 abbrev pub place_of : ℕ → List ℕ → ℕ
 place_of a t = if a == 0 then offset_of t 0 else offset_of t (a - 1) + 1
-
--- the links of the plain bytes of t, in order: for each the sequence that opened it, or nothing (OSC 8)
-abbrev pub links_in : List ℕ → List (List ℕ)
-links_in t = map (link_at t) (range_with_len 0 (length (plain t)))
-
--- the same, if `link` is open before t
-abbrev pub links_from : List ℕ → List ℕ → List (List ℕ)
-links_from link t = map (λ i. link_after_all link (marks_up_to i (marks t))) (range_with_len 0 (length (plain t)))
 
 -- what brings the link back where `other` is open: nothing if both are the same, the end of the other if no link was open, or the sequence that opened the link (own)
 abbrev pub link_back : List ℕ → List ℕ → List ℕ

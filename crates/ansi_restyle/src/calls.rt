@@ -169,8 +169,10 @@ pub trait AnsiRestyle: AnsiStr {
 
     /// The text without a range of its plain text.
     ///
-    /// Every sequence stays, so each character before the range or after it keeps its style. A
-    /// range is a pair of positions, which count bytes of the plain text. It is `None` exactly if
+    /// Every sequence stays, so each character before the range or after it keeps its style and its
+    /// link.
+    ///
+    /// A range is a pair of positions, which count bytes of the plain text. It is `None` exactly if
     /// `ansi_restyle` would refuse the range: if it ends before it begins, or a position of it is
     /// past the end of the plain text or inside a character.
     ///

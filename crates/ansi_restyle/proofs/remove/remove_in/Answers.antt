@@ -4,7 +4,9 @@ use Rattle.ansi_items.specs.Plain.{plain}
 use Rattle.ansi_search.proofs.PositionLemmas.{no_character_goes_on-past, none_if_bad, some_if_good}
 use Rattle.ansi_slice.specs.Stretches.{sequences_up_to}
 use Rattle.ansi_restyle.specs.Removed.{IsRemoved}
-use Rattle.ansi_restyle.proofs.RemovedLemmas.{length-part, removed-written, removed-empty, length-removed, is_removed, range_divided, range_bad_start, range_bad_end}
+use Rattle.ansi_restyle.proofs.IsRemovedLemmas.{is_removed}
+use Rattle.ansi_restyle.proofs.ReplacedLemmas.{is_good_range}
+use Rattle.ansi_restyle.proofs.RemovedLemmas.{length-part, removed-written, removed-empty, length-removed, range_divided, range_bad_start, range_bad_end}
 use Rattle.ansi_restyle.proofs.remove.remove_in.Goals as goal
 
 -- a bad range
@@ -38,7 +40,10 @@ returns-then-start-end-clause-bytes g c = sym (removed-empty c.args.text.now c.a
 pub returns-then-start-end-clause-headline : goal.returns-then-start-end-clause-headline
 returns-then-start-end-clause-headline g c =
     let t = c.args.text.now in
-    λ whole. subst (IsRemoved t c.args.range.0 c.args.range.1) (removed-empty t c.args.range.0 c.args.range.1 c.if-start-end.true) (is_removed t c.args.range.0 c.args.range.1 c.if-end-start.false whole)
+    let first = rw c.new.ensures at c.in-Some.ensures.divided in
+    let good = range_divided t c.args.range c.if-end-start.false first c.in-Some-split_at.ensures.divided
+    (sym c.is_char_boundary.ensures.value ∙ c.if-not-is_char_boundary.false) in
+    λ whole. subst (IsRemoved t c.args.range.0 c.args.range.1) (removed-empty t c.args.range.0 c.args.range.1 c.if-start-end.true) (is_removed t c.args.range.0 c.args.range.1 c.if-end-start.false (is_good_range t c.args.range good).end_within whole)
 
 -- any other needs memory
 
@@ -94,7 +99,10 @@ returns-clause-bytes g c =
 pub returns-clause-headline : goal.returns-clause-headline
 returns-clause-headline g c =
     let t = c.args.text.now in
-    λ whole. subst (IsRemoved t c.args.range.0 c.args.range.1) (sym (returns-clause-bytes g c)) (is_removed t c.args.range.0 c.args.range.1 c.if-end-start.false whole)
+    let first = rw c.new.ensures at c.in-Some.ensures.divided in
+    let good = range_divided t c.args.range c.if-end-start.false first c.in-Some-split_at.ensures.divided
+    (sym c.is_char_boundary.ensures.value ∙ c.if-not-is_char_boundary.false) in
+    λ whole. subst (IsRemoved t c.args.range.0 c.args.range.1) (sym (returns-clause-bytes g c)) (is_removed t c.args.range.0 c.args.range.1 c.if-end-start.false (is_good_range t c.args.range good).end_within whole)
 
 pub returns-clause-len : goal.returns-clause-len
 returns-clause-len g c = length-removed c.args.text.now c.args.range.0 c.args.range.1 (string_bytes c.push_str-2.new.self) (returns-clause-bytes g c)
