@@ -17,7 +17,7 @@ ghost use Rattle.ansi_restyle.specs.Removed.{removed, IsRemoved};
 ghost use Rattle.ansi_restyle.specs.Replaced.{replaced, IsReplaced};
 ghost use Rattle.ansi_restyle.specs.Restyled.{is_change, restyled, IsRestyled};
 
-use crate::links::{Links, unlink_in};
+use crate::links::unlink_in;
 use crate::matches::{Matches, find_from};
 use crate::remove::remove_in;
 use crate::replace::{insert_in, replace_in};
@@ -298,10 +298,10 @@ pub trait AnsiRestyle: AnsiStr {
     /// assert!(rt; matches!(links.next(), Some(link) if link.range == (2, 6) && link.address == "http://x"));
     /// assert!(rt; links.next().is_none());
     /// ```
-    final fn ansi_links(&self) -> Links<'_>
+    final fn ansi_links(&self) -> crate::links::Links<'_>
         ensures { result ≡ links (Self.text self.now) }
     {
-        Links::new(self.as_text())
+        crate::links::Links::new(self.as_text())
     }
 
     /// The text without its links.
