@@ -21,3 +21,4 @@ pub mod ReplaceLawLemmas
 pub mod WithoutLinksLemmas
 pub mod AddressLemmas
 pub mod LinkWalkLemmas
+pub mod LinkRangeLemmas

@@ -1,10 +1,13 @@
--- The links of a text, and the text without them.
-use Rattle.std.specs.Prelude.{◌≡◌, ℕ, ◌+◌, ◌&&◌, Bool, not, List, [], ◌∷◌, ◌++◌, length, map, filter, flat_map, nat_lt, unwrap_or, IsTrue, if◌then◌else◌}
-use Rattle.std.specs.List.{list_any}
+-- The links of a text, and the text without them or with a range linked.
+use Rattle.std.specs.Prelude.{◌≡◌, ℕ, ◌+◌, ◌-◌, ◌==◌, ◌&&◌, Bool, not, List, [], ◌∷◌, ◌++◌, length, map, filter, flat_map, take, drop, replicate, nat_lt, unwrap_or, IsTrue, if◌then◌else◌, codes}
+use Rattle.std.specs.List.{list_all, list_any, range_with_len}
 use Rattle.ansi_items.specs.Pieces.{spelling, pieces_of}
 use Rattle.ansi_items.specs.Plain.{Mark, plain, marks, is_whole}
 use Rattle.ansi_style.specs.Styled.{styled, residue}
-use Rattle.ansi_safe.specs.Links.{address_of, is_link}
+use Rattle.ansi_safe.specs.Links.{address_of, is_link, link_at, link_end, link_of}
+use Rattle.ansi_safe.specs.Safe.{is_printable_byte}
+use Rattle.ansi_restyle.specs.Ranges.{are_in_turn}
+use Rattle.ansi_restyle.specs.Restyled.{front, rest}
 use Rattle.ansi_restyle.specs.declared.links.Link.{Link}
 use Rattle.ansi_restyle.specs.declared.links.LinkWalk.{LinkWalk}
 
@@ -58,3 +61,47 @@ links_of_walk walk =
     let n = walk.position in
     let t = walk.rest.now in
     links_from walk.start walk.address.now (n + length (plain t)) (map (λ (m : Mark). record m { place = n + m.place }) (link_marks t))
+
+-- A text with a range linked.
+
+-- an address is clean if it isn't empty, and each byte of it is printable ASCII, as in a clean link sequence
+abbrev pub is_clean_address : List ℕ → Bool
+is_clean_address address = nat_lt 0 (length address) && list_all is_printable_byte address
+
+-- the sequence that opens a link to an address (OSC 8)
+abbrev pub link_to : List ℕ → List ℕ
+link_to address = codes "\u{1b}]8;;" ++ address ++ codes "\u{1b}\\"
+
+-- the link at each plain byte of t: the sequence that opened it, or nothing
+abbrev pub link_of_each : List ℕ → List (List ℕ)
+link_of_each t = map (λ i. link_at t i) (range_with_len 0 (length (plain t)))
+
+-- The headline: u is t with the range r linked to an address. Each byte in the range has that link, and each other byte has the link that it has in t. Without links both are the same text, so the plain text, the styles and all other sequences stay. It is a whole text, and leaves open the link and the style that t does. (own)
+pub record IsLinked (t : List ℕ) (r : ℕ × ℕ) (address u : List ℕ) : Type 0 where
+  pub linked_bytes : link_of_each u ≡ take r.0 (link_of_each t) ++ replicate (r.1 - r.0) (link_to address) ++ drop r.1 (link_of_each t)
+  pub open_link : link_of (marks u) ≡ link_of (marks t)
+  pub others : without_links u ≡ without_links t
+  pub styled_bytes : styled u ≡ styled t
+  pub plain_text : plain u ≡ plain t
+  pub whole : IsTrue (is_whole u)
+  pub open_at_end : residue u ≡ residue t
+
+-- The bytes.
+
+-- the text t as one link to an address, without its own links
+abbrev pub as_link : List ℕ → List ℕ → List ℕ
+as_link address t = link_to address ++ without_links t ++ codes "\u{1b}]8;;\u{1b}\\"
+
+-- t with the range r linked to an address: a link that is open where the range begins is ended there, and one that is open where it ends is opened again
+abbrev pub with_link : List ℕ → ℕ × ℕ → List ℕ → List ℕ
+with_link t r address =
+    let n = r.1 - r.0 in
+    let here = rest r.0 t in
+    if r.0 == r.1 then t else front r.0 t ++ link_end (link_at t r.0) ++ as_link address (front n here) ++ link_at t r.1 ++ rest n here
+
+-- the range r of the plain text of t is good, and t is in three there: up to its start, up to its end, and the rest; no public contract cites it
+pub record IsInThree (t : List ℕ) (r : ℕ × ℕ) (before within after : List ℕ) : Type 0 where
+  pub good : IsTrue (are_in_turn (plain t) 0 (r ∷ []))
+  pub before_is : before ≡ front r.0 t
+  pub within_is : within ≡ front (r.1 - r.0) (rest r.0 t)
+  pub after_is : after ≡ rest (r.1 - r.0) (rest r.0 t)

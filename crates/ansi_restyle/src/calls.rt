@@ -11,13 +11,14 @@ ghost use Rattle.ansi_search.specs.Matches.{first_match_from};
 ghost use Rattle.ansi_search.specs.Positions.{is_char_boundary, is_good_range};
 ghost use Rattle.ansi_style.specs.Written.{written};
 ghost use Rattle.ansi_restyle.specs.Links.{has_link, links, without_links, IsWithoutLinks};
+ghost use Rattle.ansi_restyle.specs.Links.{is_clean_address, with_link, IsLinked};
 ghost use Rattle.ansi_restyle.specs.Matches.{matches};
 ghost use Rattle.ansi_restyle.specs.Ranges.{are_in_turn, are_empty, keep_line_ends};
 ghost use Rattle.ansi_restyle.specs.Removed.{removed, IsRemoved};
 ghost use Rattle.ansi_restyle.specs.Replaced.{replaced, IsReplaced};
 ghost use Rattle.ansi_restyle.specs.Restyled.{is_change, restyled, IsRestyled};
 
-use crate::links::unlink_in;
+use crate::links::{link_in, unlink_in};
 use crate::matches::{Matches, find_from};
 use crate::remove::remove_in;
 use crate::replace::{insert_in, replace_in};
@@ -26,8 +27,8 @@ use ansi_str::AnsiStr;
 use std::alloc::{AllocError, Global};
 use std::borrow::CowStr;
 
-/// The matches of a pattern in a text and its links, parts of a text in another style, and a text
-/// without a part, with another text in its place, or without its links.
+/// The matches of a pattern in a text and its links, parts of a text in another style or in a link,
+/// and a text without a part, with another text in its place, or without its links.
 ///
 /// Implemented for every type that implements [`AnsiStr`]. The results depend on the text alone,
 /// not on its type.
@@ -302,6 +303,50 @@ pub trait AnsiRestyle: AnsiStr {
         ensures { result ≡ links (Self.text self.now) }
     {
         crate::links::Links::new(self.as_text())
+    }
+
+    /// The text with a range linked to an address.
+    ///
+    /// Each character in the range gets the link, and loses another one that it had. All other
+    /// characters keep their links: one that goes on into the range ends before it, and one that goes
+    /// on after it is opened again there. The plain text, the styles and all other sequences stay.
+    /// The link is an OSC 8 sequence without parameters.
+    ///
+    /// A range is a pair of positions, which count bytes of the plain text. It is `None` exactly if
+    /// `ansi_restyle` would refuse the range, or if the address is empty or has a byte that isn't
+    /// printable ASCII (20 to 7E). So write other characters of an address as `%` and two digits.
+    ///
+    /// It is a borrow if the range ends where it begins. A borrow and a `None` don't allocate.
+    /// Otherwise it is owned, and longer than the text by at most 21 bytes, the address, and the
+    /// sequence of the link that is open where the range ends. `Err` means out of memory. Takes time
+    /// in proportion to the text and the address. (OSC 8; own.)
+    ///
+    /// ```
+    /// let linked = "see \x1b[1mhere".ansi_link(rt.alloc(), (4, 8), "http://x");
+    /// assert!(rt; matches!(&linked, Ok(Some(linked)) if linked.as_str() == "see \x1b[1m\x1b]8;;http://x\x1b\\here\x1b]8;;\x1b\\"));
+    /// assert!(rt; matches!("here".ansi_link(rt.alloc(), (0, 4), "a\nb"), Ok(None)));
+    /// ```
+    final fn ansi_link(
+        &self,
+        alloc: Global,
+        range: (usize, usize),
+        address: &str,
+    ) -> Result<Option<CowStr<'_>>, AllocError>
+        ensures headline { IsTrue (is_whole (Self.text self.now)) → IfOk result (λ o. IfSome o (λ c.
+            IsLinked (Self.text self.now) range address.now (cow_str_bytes c))) }
+        ensures none { IfOk result (λ o. IsNone o ↔ IsFalse (is_clean_address address.now
+            && are_in_turn (plain (Self.text self.now)) 0 (range ∷ []))) }
+        ensures bytes { IfOk result (λ o. IfSome o (λ c.
+            cow_str_bytes c ≡ with_link (Self.text self.now) range address.now)) }
+        ensures borrowed { IfOk result (λ o. IfSome o (λ c.
+            IsBorrowedStr c ↔ (range.0 ≡ range.1))) }
+        ensures len { IfOk result (λ o. IfSome o (λ c. length (cow_str_bytes c)
+            ≤ length (Self.text self.now) + length address.now
+            + length (link_at (Self.text self.now) range.1) + 21)) }
+        ensures takes_no_memory { (range.0 ≡ range.1) ⊎ IsFalse (is_clean_address address.now
+            && are_in_turn (plain (Self.text self.now)) 0 (range ∷ [])) → IsOk result }
+    {
+        link_in(alloc, self.as_text(), range, address)
     }
 
     /// The text without its links.

@@ -1,16 +1,23 @@
 //! The links of a text.
-ghost use Rattle.std.specs.Prelude.{◌≡◌, ◌↔◌, ◌≤◌, ◌<◌, ◌+◌, ◌^◌, ◌∷◌, ◌++◌, ◌&&◌, [], length, IfOk, IsFalse, IsOk};
-ghost use Rattle.std.specs.Prelude.{IfSome, IsTrue, MatchOption, OnOk, nat_lt, string_bytes};
+ghost use Rattle.std.specs.Prelude.{◌≡◌, ◌↔◌, ◌≤◌, ◌<◌, ◌+◌, ◌^◌, ◌∷◌, ◌++◌, ◌&&◌, ◌⊎◌, [], length, IfOk, IsFalse, IsOk};
+ghost use Rattle.std.specs.Prelude.{IfSome, IsNone, IsTrue, MatchOption, OnOk, nat_lt, string_bytes};
 ghost use Rattle.std.specs.Cow.{cow_str_bytes, IsBorrowedStr};
+ghost use Rattle.std.specs.List.{list_all};
 ghost use Rattle.std.specs.Option.{option_map};
 ghost use Rattle.ansi_items.specs.Plain.{plain, is_whole};
 ghost use Rattle.ansi_items.specs.Sequences.{IsSequence};
-ghost use Rattle.ansi_safe.specs.Links.{address_of, is_link};
+ghost use Rattle.ansi_safe.specs.Links.{address_of, is_link, link_at};
+ghost use Rattle.ansi_safe.specs.Safe.{is_printable_byte};
 ghost use Rattle.ansi_restyle.specs.Links.{has_link, without_links, IsWithoutLinks};
 ghost use Rattle.ansi_restyle.specs.Links.{linked_range, links, links_of_walk};
+ghost use Rattle.ansi_restyle.specs.Links.{is_clean_address, as_link, with_link, IsLinked, IsInThree};
+ghost use Rattle.ansi_restyle.specs.Ranges.{are_in_turn};
 
+use crate::rest::Rest;
 use ansi_items::ansitok::{Kind, Scanner};
-use ansi_safe::links::{address_of, terminator_len};
+use ansi_safe::links::{address_of, pen_after, pen_after_from, terminator_len};
+use ansi_search::search;
+use ansi_style::styles;
 use std::alloc::{AllocError, Allocator};
 use std::borrow::CowStr;
 use std::marker::Model;
@@ -188,6 +195,107 @@ pub fn unlink_in<'t, A: Allocator>(alloc: A, text: &'t str) -> Result<CowStr<'t,
     let mut bare = String::with_capacity(alloc, text.len())?;
     push_without_links(&mut bare, text)?;
     Ok(CowStr::Owned(bare))
+}
+
+/// Like `AnsiRestyle::ansi_link`, with a result that lives as long as the text, and with any
+/// allocator.
+///
+/// ```
+/// let linked = link_in(rt.alloc(), "see \x1b[1mhere", (4, 8), "http://x");
+/// assert!(rt; matches!(&linked, Ok(Some(linked)) if linked.as_str() == "see \x1b[1m\x1b]8;;http://x\x1b\\here\x1b]8;;\x1b\\"));
+/// ```
+pub fn link_in<'t, A: Allocator>(
+    alloc: A,
+    text: &'t str,
+    range: (usize, usize),
+    address: &str,
+) -> Result<Option<CowStr<'t, A>>, AllocError>
+    ensures headline { IsTrue (is_whole text.now) → IfOk result (λ o. IfSome o (λ c.
+        IsLinked text.now range address.now (cow_str_bytes c))) }
+    ensures none { IfOk result (λ o. IsNone o ↔ IsFalse
+        (is_clean_address address.now && are_in_turn (plain text.now) 0 (range ∷ []))) }
+    ensures bytes { IfOk result (λ o. IfSome o (λ c.
+        cow_str_bytes c ≡ with_link text.now range address.now)) }
+    ensures borrowed { IfOk result (λ o. IfSome o (λ c. IsBorrowedStr c ↔ (range.0 ≡ range.1))) }
+    ensures len { IfOk result (λ o. IfSome o (λ c. length (cow_str_bytes c)
+        ≤ length text.now + length address.now + length (link_at text.now range.1) + 21)) }
+    ensures takes_no_memory { (range.0 ≡ range.1) ⊎ IsFalse
+        (is_clean_address address.now && are_in_turn (plain text.now) 0 (range ∷ [])) →
+        IsOk result }
+{
+    let (start, end) = range;
+    if !is_clean_address(address) {
+        return Ok(None);
+    }
+    let Some((before, within, after)) = in_three(text, range) else {
+        return Ok(None);
+    };
+    if start == end {
+        return Ok(Some(CowStr::Borrowed(text)));
+    }
+    let at_start = pen_after(before);
+    let at_end = pen_after_from(at_start, within);
+    let mut linked = String::with_capacity(alloc, text.len())?;
+    linked.push_str(before)?;
+    linked.push_str(at_start.link_end())?;
+    push_link(&mut linked, within, address)?;
+    linked.push_str(at_end.link)?;
+    linked.push_str(after)?;
+    Ok(Some(CowStr::Owned(linked)))
+}
+
+/// A text up to where a range begins, up to where it ends, and what follows, or `None` if the range
+/// is bad.
+fn in_three(text: &str, range: (usize, usize)) -> Option<(&str, &str, &str)>
+    ensures { MatchOption result (IsFalse (are_in_turn (plain text.now) 0 (range ∷ [])))
+        (λ (before, within, after).
+        IsInThree text.now range before.now within.now after.now) }
+{
+    let (start, end) = range;
+    if end < start {
+        return None;
+    }
+    let mut style = styles::plain_style();
+    let Some(at_start) = Rest::new(text).split_at(&mut style, start) else {
+        return None;
+    };
+    let Some(at_end) = at_start.rest.split_at(&mut style, end - start) else {
+        return None;
+    };
+    if !search::is_char_boundary(text, end) {
+        return None;
+    }
+    Some((at_start.front, at_end.front, at_end.rest.text))
+}
+
+/// Whether the address is clean.
+fn is_clean_address(address: &str) -> bool
+    ensures { result ≡ is_clean_address address.now }
+{
+    !address.is_empty() && is_printable(address)
+}
+
+/// Whether each byte of the text is printable ASCII.
+fn is_printable(text: &str) -> bool
+    ensures { result ≡ list_all is_printable_byte text.now }
+{
+    text.as_bytes()
+        .iter()
+        .all(|byte| (0x20..=0x7E).contains(byte))
+}
+
+/// Appends a text as one link to an address. `Err` means out of memory; what was appended before it
+/// stays.
+fn push_link<A: Allocator>(out: &mut String<A>, text: &str, address: &str) -> Result<(), AllocError>
+    ensures { OnOk result (string_bytes out.new
+        ≡ string_bytes out.old ++ as_link address.now text.now) }
+{
+    out.push_str("\x1b]8;;")?;
+    out.push_str(address)?;
+    out.push_str("\x1b\\")?;
+    push_without_links(out, text)?;
+    out.push_str("\x1b]8;;\x1b\\")?;
+    Ok(())
 }
 
 /// Whether a text has a link sequence.

@@ -1,6 +1,6 @@
 //! The examples of the docs of `ansi_restyle`, in the same words.
 use ansi_restyle::AnsiRestyle;
-use ansi_restyle::links::{Links, unlink_in};
+use ansi_restyle::links::{Links, link_in, unlink_in};
 use ansi_restyle::matches::Matches;
 use ansi_restyle::remove::remove_in;
 use ansi_restyle::replace::{insert_in, replace_in};
@@ -146,4 +146,21 @@ fn ansi_links_example(rt: HostRuntime) {
         matches!(links.next(), Some(link) if link.range == (2, 6) && link.address == "http://x")
     );
     assert!(rt; links.next().is_none());
+}
+
+#[test]
+fn link_in_example(rt: HostRuntime) {
+    let linked = link_in(rt.alloc(), "see \x1b[1mhere", (4, 8), "http://x");
+    assert!(rt;
+        matches!(&linked, Ok(Some(linked)) if linked.as_str() == "see \x1b[1m\x1b]8;;http://x\x1b\\here\x1b]8;;\x1b\\")
+    );
+}
+
+#[test]
+fn ansi_link_example(rt: HostRuntime) {
+    let linked = "see \x1b[1mhere".ansi_link(rt.alloc(), (4, 8), "http://x");
+    assert!(rt;
+        matches!(&linked, Ok(Some(linked)) if linked.as_str() == "see \x1b[1m\x1b]8;;http://x\x1b\\here\x1b]8;;\x1b\\")
+    );
+    assert!(rt; matches!("here".ansi_link(rt.alloc(), (0, 4), "a\nb"), Ok(None)));
 }
