@@ -37,7 +37,7 @@ styles-shut u v first second =
     ∙ style_through-alike (style_through plain_style (pieces_of u)) plain_style (pieces_of v) (sym (ap known (style_after_from-pieces plain_style u)) ∙ first.closed.style)
     ∙ sym (ap known (style_after_from-pieces plain_style v)) ∙ second.closed.style
 
-linked-shut : (t : List ℕ) → IsShut t → IsLinked [] t (linked t) []
+pub linked-shut : (t : List ℕ) → IsShut t → IsLinked [] t (linked t) []
 linked-shut t shut = record { whole = shut.whole; bytes = sym (linked-pieces t); after = sym (link_of-pieces (pieces_of t)) ∙ shut.closed.link }
 
 pub shut-append : (u v : List ℕ) → IsShut u → IsShut v → IsShut (u ++ v)

@@ -60,6 +60,8 @@ pub mod FittedLawLemmas
 pub mod SidesLawLemmas
 pub mod IndentLawLemmas
 pub mod TailLemmas
+pub mod RowLemmas
+pub mod RowScreenLemmas
 pub mod PlainCellLemmas
 pub mod PrintableTextLemmas
 pub mod FrontRunLemmas

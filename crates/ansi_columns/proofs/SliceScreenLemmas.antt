@@ -3,7 +3,7 @@ use Rattle.std.proofs.Common.{◌≡◌, ℕ, zero, suc, ◌+◌, ◌-◌, ◌<�
 use Rattle.std.specs.List.{concat}
 use Rattle.std.specs.Str.{IsUtf8, byte, chars}
 use Rattle.std.proofs.lemmas.Bool.{cases_lt, cases_Bool, leb-true, leb-false, or_parts, lt-ltb, le-ltb, lt-leb, ne_eqb}
-use Rattle.std.proofs.lemmas.List.{drop-drop, drop_at, take_at, take-append-drop, take-map, map-append, length-drop, length-take-le}
+use Rattle.std.proofs.lemmas.List.{drop-drop, map-append, length-drop, length-take-le}
 use Rattle.std.proofs.lemmas.List.Sums.{sum_by-append}
 use Rattle.std.proofs.lemmas.Str.{chars-append, IsUtf8-take, IsUtf8-drop}
 use Rattle.ansi_items.specs.Plain.{plain, marks, marks_up_to, is_whole}
@@ -19,12 +19,11 @@ use Rattle.ansi_split.proofs.PartSliceLemmas.{earlier_places}
 use Rattle.ansi_safe.specs.Links.{link_at, link_after}
 use Rattle.ansi_safe.proofs.LinkLemmas.{link_of-fold}
 use Rattle.ansi_columns.specs.Addresses.{LinkedByte, linked}
-use Rattle.ansi_columns.specs.Columns.{clusters, cluster_width, columns, columns_of, bytes_of, IsClusterBoundary}
+use Rattle.ansi_columns.specs.Columns.{clusters, cluster_width, columns, columns_of, bytes_of}
 use Rattle.ansi_columns.specs.Shown.{blanks}
 use Rattle.ansi_columns.specs.Slices.{ended, begun, has_no_column, column_place, bytes_from, bytes_up_to, blanks_before, blanks_after, opened_at, sliced_up_to}
+use Rattle.ansi_columns.specs.Rows.{row, joined, row_range, copies, blanks_like}
 use Rattle.ansi_columns.specs.Screens.{Column, screen_of, screen, shown_in, shown_from, screen_slice}
-use Rattle.ansi_columns.proofs.BreakLawLemmas.{clusters-add_up}
-use Rattle.ansi_columns.proofs.ClusterLawLemmas.{clusters-front}
 use Rattle.ansi_columns.proofs.LineLawLemmas.{boundary_between}
 use Rattle.ansi_columns.proofs.LinkedLawLemmas.{linked_byte, linked-pieces}
 use Rattle.ansi_columns.proofs.ShownLawLemmas.{bytes_of-clusters, IsUtf8-blanks}
@@ -267,6 +266,36 @@ map-bytes : (s : Rendition) (w : List ℕ) → map (λ (c : StyledByte). c.byte)
 map-bytes s [] = refl
 map-bytes s (c ∷ w) = ap (λ v. c ∷ v) (map-bytes s w)
 
+-- blanks are copies of a blank
+
+map-blanks : {A : Type 0} (f : ℕ → A) (count : ℕ) → map f (blanks count) ≡ copies count (f (byte " ") ∷ [])
+map-blanks f zero = refl
+map-blanks f (suc count) = ap (λ xs. f (byte " ") ∷ xs) (map-blanks f count)
+
+map-copies : {A B : Type 0} (f : A → B) (count : ℕ) (c : A) → map f (replicate count c) ≡ replicate count (f c)
+map-copies f zero c = refl
+map-copies f (suc count) c = ap (λ xs. f c ∷ xs) (map-copies f count c)
+
+copies-alike : {A : Type 0} (count : ℕ) (x : A) (xs : List A) → replicate count (x ∷ []) ≡ replicate count xs → copies count (x ∷ []) ≡ copies count xs
+copies-alike zero x xs same = refl
+copies-alike (suc count) x xs same = ap (copies (suc count)) (first same)
+  where
+    first : {B : Type 0} {u v : B} {us vs : List B} → u ∷ us ≡ v ∷ vs → u ≡ v
+    first e = cc
+
+copied : (f : ℕ → StyledByte) (g : ℕ → LinkedByte) (count : ℕ) (c : Column) → replicate count (record { styled = f (byte " ") ∷ []; linked = g (byte " ") ∷ []; index = 0; width = 1 }) ≡ replicate count c
+    → (map f (blanks count) ≡ copies count c.styled) × (map g (blanks count) ≡ copies count c.linked)
+copied f g count c same = (
+  map-blanks f count ∙ copies-alike count (f (byte " ")) c.styled (seen (λ (d : Column). d.styled)),
+  map-blanks g count ∙ copies-alike count (g (byte " ")) c.linked (seen (λ (d : Column). d.linked)),
+)
+  where
+    one : Column
+    one = record { styled = f (byte " ") ∷ []; linked = g (byte " ") ∷ []; index = 0; width = 1 }
+
+    seen : {B : Type 0} (h : Column → B) → replicate count (h one) ≡ replicate count (h c)
+    seen h = sym (map-copies h count one) ∙ ap (map h) same ∙ map-copies h count c
+
 module _ (t : List ℕ) (a b : ℕ) (utf8 : IsUtf8 t) (whole : IsTrue (is_whole t)) (some : has_no_column (plain t) a b ≡ false) where
   abbrev x : List ℕ
   x = plain t
@@ -384,6 +413,15 @@ module _ (t : List ℕ) (a b : ℕ) (utf8 : IsUtf8 t) (whole : IsTrue (is_whole 
             bytes_of-append (begun a (clusters x)) (d.middle ++ d.rest),
             bytes_of-append d.middle d.rest,
           )
+
+  -- so its row is that of the columns
+  pub row-some : row (sliced_up_to t a b) ≡ joined (blanks_like p k (row t)) (joined (row_range s e (row t)) (blanks_like q e (row t)))
+  row-some =
+      let before = copied (styled_byte style) (linked_byte link) p (blank_of (drop k (styled t)) (drop k (linked t))) first_blanks in
+      let after = copied (styled_byte (style_at t e)) (linked_byte last) q (blank_of (drop e (styled t)) (drop e (linked t))) last_blanks in
+      ap₂ (λ ss ls. record { styled = ss; linked = ls })
+      (styled_is ∙ ap₂ (λ u v. u ++ (slice_range (styled t) s e ++ v)) before.0 after.0)
+      (linked_is ∙ ap₂ (λ u v. u ++ (slice_range (linked t) s e ++ v)) before.1 after.1)
 
   screen-some : screen (sliced_up_to t a b) ≡ screen_slice a b (screen t)
   screen-some =

@@ -30,12 +30,12 @@ style_through-alike s t (p ∷ ps) same = style_through-alike (apply s (spelling
 
 -- ---- consecutive whole texts, with the style s before them: their styled bytes, and what is known of the style after them
 
-record IsStyled (s : Rendition) (t : List ℕ) (bs : List StyledByte) (next : Rendition) : Type 0 where
-  whole : IsTrue (is_whole t)
-  bytes : styled_through s (pieces_of t) ≡ bs
-  after : known (style_through s (pieces_of t)) ≡ known next
+pub record IsStyled (s : Rendition) (t : List ℕ) (bs : List StyledByte) (next : Rendition) : Type 0 where
+  pub whole : IsTrue (is_whole t)
+  pub bytes : styled_through s (pieces_of t) ≡ bs
+  pub after : known (style_through s (pieces_of t)) ≡ known next
 
-IsStyled-append : {s middle next : Rendition} {u v : List ℕ} {xs ys : List StyledByte} → IsStyled s u xs middle → IsStyled middle v ys next → IsStyled s (u ++ v) (xs ++ ys) next
+pub IsStyled-append : {s middle next : Rendition} {u v : List ℕ} {xs ys : List StyledByte} → IsStyled s u xs middle → IsStyled middle v ys next → IsStyled s (u ++ v) (xs ++ ys) next
 IsStyled-append {s} {middle} {next} {u} {v} {xs} {ys} first second = record {
   whole = is_whole-append u v first.whole second.whole;
   bytes = ap (styled_through s) (pieces_of-append u v first.whole second.whole) ∙ styled_through-merged s (pieces_of u ++ pieces_of v) ∙ styled_through-append s (pieces_of u) (pieces_of v)
@@ -44,7 +44,7 @@ IsStyled-append {s} {middle} {next} {u} {v} {xs} {ys} first second = record {
       ∙ style_through-alike (style_through s (pieces_of u)) middle (pieces_of v) first.after ∙ second.after;
 }
 
-IsStyled-text : (t : List ℕ) → IsTrue (is_whole t) → IsStyled plain_style t (styled t) (style_after t)
+pub IsStyled-text : (t : List ℕ) → IsTrue (is_whole t) → IsStyled plain_style t (styled t) (style_after t)
 IsStyled-text t whole = record { whole = whole; bytes = sym (styled-pieces t); after = sym (ap known (style_after_from-pieces plain_style t)) }
 
 IsStyled-nil : (s : Rendition) → IsStyled s [] [] s

@@ -1,5 +1,5 @@
 -- Truncated and fitted texts of cells are safe, on one line and closed, if their tail is.
-use Rattle.std.proofs.Common.{◌≡◌, ℕ, ◌+◌, ◌-◌, ◌==◌, Bool, true, false, not, ◌||◌, List, [], ◌∷◌, ◌++◌, length, nat_le, if◌then◌else◌, IsTrue, refl, sym, ◌∙◌, ap, subst, arith, append-nil}
+use Rattle.std.proofs.Common.{◌≡◌, ℕ, ◌-◌, ◌==◌, Bool, true, false, not, ◌||◌, List, [], ◌∷◌, ◌++◌, length, nat_le, if◌then◌else◌, IsTrue, refl, sym, ◌∙◌, ap, subst, arith, append-nil}
 use Rattle.std.specs.Str.{IsUtf8, IsCharBoundary}
 use Rattle.std.proofs.lemmas.Bool.{cond_both, and_parts, and_from}
 use Rattle.std.proofs.lemmas.Str.{IsUtf8-nil, IsCharBoundary-start}
@@ -66,7 +66,7 @@ either_tail : (P : List ℕ → Type 0) (b : Bool) (x : List ℕ) → P x → P 
 either_tail P true x is none = is
 either_tail P false x is none = none
 
-shut-nil : IsShut []
+pub shut-nil : IsShut []
 shut-nil = record { whole = refl; closed = record { style = refl; link = refl } }
 
 pub shown-append : (u v : List ℕ) → IsShown u → IsShown v → IsShown (u ++ v)

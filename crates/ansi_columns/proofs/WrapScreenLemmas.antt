@@ -1,5 +1,5 @@
 -- What the lines of a wrap show: each some columns of the paragraph, in order.
-use Rattle.std.proofs.Common.{◌≡◌, ℕ, ◌+◌, ◌-◌, List, [], ◌∷◌, ◌++◌, All, length, map, take, drop, slice_range, IsTrue, refl, sym, ◌∙◌, ap, ap₂, subst, arith, append_assoc}
+use Rattle.std.proofs.Common.{◌≡◌, ℕ, ◌-◌, List, [], ◌∷◌, ◌++◌, length, map, take, drop, slice_range, IsTrue, refl, sym, ◌∙◌, ap, ap₂, arith, append_assoc}
 use Rattle.std.specs.Str.{IsUtf8}
 use Rattle.std.specs.List.{AllByRecursion}
 use Rattle.std.proofs.lemmas.List.{drop_at, take_at}
@@ -26,10 +26,10 @@ use Rattle.ansi_columns.proofs.ScreenLemmas.{length-screen_of, screen_of-append,
 use Rattle.ansi_columns.proofs.WrapLawLemmas.{wrapped-styled, wrapped-linked}
 
 -- the screen of styled and linked bytes
-abbrev screen_by : List StyledByte → List LinkedByte → List Column
+abbrev pub screen_by : List StyledByte → List LinkedByte → List Column
 screen_by ss ls = screen_of (clusters (map (λ (c : StyledByte). c.byte) ss)) ss ls
 
-screen-by : (t : List ℕ) → screen t ≡ screen_by (styled t) (linked t)
+pub screen-by : (t : List ℕ) → screen t ≡ screen_by (styled t) (linked t)
 screen-by t = ap (λ x. screen_of (clusters x) (styled t) (linked t)) (sym (unstyled-styled t))
 
 -- the columns over an interval of bytes
@@ -85,7 +85,7 @@ module _ (p : List ℕ) (width : ℕ) (i : ℕ × ℕ) (utf8 : IsUtf8 p) (line :
       ∙ take_at inner outer (columns_of shown) (length-screen_of shown ss ls))
 
 -- two functions of each element, and what they give together
-zipped : {A B C D E : Type 0} (h : C → D → E) (f : A → C) (g : A → D) (f' : B → C) (g' : B → D) (xs : List A) (ys : List B) → map f xs ≡ map f' ys → map g xs ≡ map g' ys
+pub zipped : {A B C D E : Type 0} (h : C → D → E) (f : A → C) (g : A → D) (f' : B → C) (g' : B → D) (xs : List A) (ys : List B) → map f xs ≡ map f' ys → map g xs ≡ map g' ys
     → map (λ x. h (f x) (g x)) xs ≡ map (λ y. h (f' y) (g' y)) ys
 zipped h f g f' g' [] [] same alike = refl
 zipped h f g f' g' [] (y ∷ ys) same alike = absurd (cc)

@@ -13,6 +13,7 @@ pub mod Slices
 pub mod Screens
 pub mod Wrapped
 pub mod Indents
+pub mod Rows
 pub mod WrapStates
 pub mod Addresses
 pub mod Tabs

@@ -1,6 +1,6 @@
 //! The calls on display width: for any text, and for `&str`.
 ghost use Rattle.std.specs.Prelude.{◌≡◌, ◌↔◌, ◌+◌, ◌*◌, ◌≤◌, ◌⊎◌, Some, None, [], length, IsTrue};
-ghost use Rattle.std.specs.Prelude.{All, IsFalse, IsNone, IsOk, IfOk};
+ghost use Rattle.std.specs.Prelude.{map, All, IsFalse, IsNone, IsOk, IfOk};
 ghost use Rattle.std.specs.List.{list_all};
 ghost use Rattle.std.specs.Option.{option_map};
 ghost use Rattle.std.specs.Cow.{cow_str_bytes, IsBorrowedStr};
@@ -20,6 +20,8 @@ ghost use Rattle.ansi_columns.specs.Shown.{closed_cell};
 ghost use Rattle.ansi_columns.specs.Fitted.{fitted};
 ghost use Rattle.ansi_columns.specs.Sides.{is_cut_at_end, truncated_at};
 ghost use Rattle.ansi_columns.specs.Slices.{is_sliced_stretch, sliced_blanks, sliced};
+ghost use Rattle.ansi_columns.specs.Rows.{cell_row, row_screen, truncated_row, truncated_row_at};
+ghost use Rattle.ansi_columns.specs.Rows.{padded_row, fitted_row, line_screens, indented_screens};
 ghost use Rattle.ansi_columns.specs.Screens.{screen, sliced_screen};
 ghost use Rattle.ansi_columns.specs.Tabs.{has_tab, tabs, expanded};
 ghost use Rattle.ansi_columns.specs.Indents.{wrapped_with, IsWrappedWith};
@@ -139,6 +141,8 @@ pub trait AnsiColumns: AnsiStr {
         ensures safe { IfOk result (λ c. IsTrue (is_safe Keep (cow_str_bytes c))) }
         ensures one_line { IfOk result (λ c. IsTrue (is_one_line (cow_str_bytes c))) }
         ensures closed { IfOk result (λ c. IsClosed (cow_str_bytes c)) }
+        ensures screen { IfOk result (λ c. screen (cow_str_bytes c) ≡ row_screen
+            (truncated_row width (cell_row tail.now) (cell_row (Self.text self.now)))) }
         ensures borrowed { IfOk result (λ c. IsBorrowedStr c
             ↔ (KeptStays (Self.text self.now) width (closed_cell tail.now)
             × (truncated_ending (cell (Self.text self.now)) width (closed_cell tail.now) ≡ []))) }
@@ -179,6 +183,8 @@ pub trait AnsiColumns: AnsiStr {
         ensures safe { IfOk result (λ c. IsTrue (is_safe Keep (cow_str_bytes c))) }
         ensures one_line { IfOk result (λ c. IsTrue (is_one_line (cow_str_bytes c))) }
         ensures closed { IfOk result (λ c. IsClosed (cow_str_bytes c)) }
+        ensures screen { IfOk result (λ c. screen (cow_str_bytes c)
+            ≡ row_screen (padded_row width alignment (cell_row (Self.text self.now)))) }
         ensures borrowed { IfOk result (λ c. IsBorrowedStr c
             ↔ ((cell (Self.text self.now) ≡ Self.text self.now)
             × (missing (cell (Self.text self.now)) width ≡ 0)
@@ -219,6 +225,8 @@ pub trait AnsiColumns: AnsiStr {
         ensures safe { IfOk result (λ c. IsTrue (is_safe Keep (cow_str_bytes c))) }
         ensures one_line { IfOk result (λ c. IsTrue (is_one_line (cow_str_bytes c))) }
         ensures closed { IfOk result (λ c. IsClosed (cow_str_bytes c)) }
+        ensures screen { IfOk result (λ c. screen (cow_str_bytes c) ≡ row_screen
+            (fitted_row width alignment (cell_row tail.now) (cell_row (Self.text self.now)))) }
         ensures borrowed { IfOk result (λ c. IsBorrowedStr c
             ↔ (KeptStays (Self.text self.now) width (closed_cell tail.now)
             × (truncated_ending (cell (Self.text self.now)) width (closed_cell tail.now) ≡ [])
@@ -265,6 +273,9 @@ pub trait AnsiColumns: AnsiStr {
         ensures safe { IfOk result (λ c. IsTrue (is_safe Keep (cow_str_bytes c))) }
         ensures one_line { IfOk result (λ c. IsTrue (is_one_line (cow_str_bytes c))) }
         ensures closed { IfOk result (λ c. IsClosed (cow_str_bytes c)) }
+        ensures screen { IfOk result (λ c. screen (cow_str_bytes c) ≡ row_screen
+            (truncated_row_at to.now.side to.now.width
+            (cell_row to.now.tail.now) (cell_row (Self.text self.now)))) }
         ensures borrowed { IfOk result (λ c. IsBorrowedStr c
             ↔ (KeptStays (Self.text self.now) to.now.width (closed_cell to.now.tail.now)
             × IsTrue (is_cut_at_end to.now.side (cell (Self.text self.now)) to.now.width)
@@ -382,6 +393,7 @@ pub trait AnsiColumns: AnsiStr {
         ensures safe { All (λ l. IsTrue (is_safe Keep l.bytes)) result }
         ensures one_line { All (λ l. IsTrue (is_one_line l.bytes)) result }
         ensures closed { All (λ l. IsClosed l.bytes) result }
+        ensures screen { map (λ l. screen l.bytes) result ≡ line_screens (Self.text self.now) width }
         ensures takes_no_memory { paragraph (Self.text self.now) ≡ Self.text self.now →
             IsFalse (has_escape (Self.text self.now)) →
             IsTrue (list_all (λ l. l.borrowed) result) }
@@ -417,6 +429,8 @@ pub trait AnsiColumns: AnsiStr {
         ensures safe { All (λ l. IsTrue (is_safe Keep l.bytes)) result }
         ensures one_line { All (λ l. IsTrue (is_one_line l.bytes)) result }
         ensures closed { All (λ l. IsClosed l.bytes) result }
+        ensures screen { map (λ l. screen l.bytes) result ≡ indented_screens (Self.text self.now)
+            to.now.width to.now.first_indent.now to.now.indent.now }
         ensures takes_no_memory { paragraph (Self.text self.now) ≡ Self.text self.now →
             IsFalse (has_escape (Self.text self.now)) → to.now.first_indent.now ≡ [] →
             to.now.indent.now ≡ [] → IsTrue (list_all (λ l. l.borrowed) result) }

@@ -8,6 +8,8 @@ ghost use Rattle.ansi_safe.specs.Safe.{is_safe};
 ghost use Rattle.ansi_safe.specs.declared.policy.Links.TheVariants.{Keep};
 ghost use Rattle.ansi_columns.specs.Fitted.{fitted};
 ghost use Rattle.ansi_columns.specs.OneLine.{is_one_line};
+ghost use Rattle.ansi_columns.specs.Rows.{cell_row, row_screen, fitted_row};
+ghost use Rattle.ansi_columns.specs.Screens.{screen};
 ghost use Rattle.ansi_columns.specs.Shown.{truncated_ending, truncated, KeptStays, missing, closing};
 ghost use Rattle.ansi_columns.specs.Shown.{closed_cell};
 
@@ -37,6 +39,8 @@ pub fn fit<'t, A: Allocator + Copy>(
     ensures safe { IfOk result (λ c. IsTrue (is_safe Keep (cow_str_bytes c))) }
     ensures one_line { IfOk result (λ c. IsTrue (is_one_line (cow_str_bytes c))) }
     ensures closed { IfOk result (λ c. IsClosed (cow_str_bytes c)) }
+    ensures screen { IfOk result (λ c. screen (cow_str_bytes c) ≡ row_screen
+        (fitted_row width alignment (cell_row tail.now) (cell_row text.now))) }
     ensures borrowed { IfOk result (λ c. IsBorrowedStr c
         ↔ (KeptStays text.now width (closed_cell tail.now)
         × (truncated_ending (cell text.now) width (closed_cell tail.now) ≡ [])

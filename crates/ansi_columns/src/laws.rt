@@ -24,6 +24,8 @@ ghost use Rattle.ansi_safe.specs.Links.{link_of, IsClosed};
 ghost use Rattle.ansi_columns.specs.Shown.{has_tail, truncated_end, truncated, KeptStays, missing};
 ghost use Rattle.ansi_columns.specs.Shown.{before_text, blanks, padded, without_style, closed_cell};
 ghost use Rattle.ansi_columns.specs.Screens.{screen, screen_slice, plain_blank};
+ghost use Rattle.ansi_columns.specs.Rows.{Row, row, row_bytes, row_width, row_screen, joined};
+ghost use Rattle.ansi_columns.specs.Rows.{blank_row, fitting_row, row_columns};
 ghost use Rattle.ansi_columns.specs.Sides.{truncated_at};
 ghost use Rattle.ansi_columns.specs.Slices.{sliced_up_to};
 ghost use Rattle.ansi_columns.specs.Indents.{wrapped_with};
@@ -193,17 +195,6 @@ pub fn wrapped_lines_keep_links()
     ansi_safe::laws::cells_are_safe();
 }
 
-/// Each line of a wrapped text shows the columns of the text's paragraph over the interval of the
-/// line.
-pub fn wrapped_lines_show_their_columns()
-    ensures { (t : List ℕ) (width : ℕ) → IsUtf8 t → map (λ l. screen l.bytes) (wrapped t width)
-        ≡ map (λ (i : ℕ × ℕ). slice_range (screen (paragraph t))
-        (columns (take i.0 (plain (paragraph t)))) (columns (take i.1 (plain (paragraph t)))))
-        (lines width (plain (paragraph t))) }
-{
-    ansi_safe::laws::cells_are_safe();
-}
-
 /// Each line of a text wrapped with indents is whole, whatever the text and the indents are, and
 /// leaves no known style and no link open.
 pub fn indented_lines_are_closed()
@@ -268,30 +259,6 @@ pub fn screens_are_as_wide()
     ensures { (t : List ℕ) → length (screen t) ≡ columns (plain t) }
 {}
 
-/// A truncated text shows the columns of the prefix of the cell that fits, and then the tail's, if a
-/// cluster ends before the tail.
-pub fn truncated_shows_its_prefix()
-    ensures { (t : List ℕ) (width : ℕ) (tail : List ℕ) → IsUtf8 t → IsUtf8 tail →
-        IsTrue (is_whole tail) → IsClusterBoundary (plain (truncated (cell t) width tail))
-        (truncated_end (cell t) width tail) → screen (truncated (cell t) width tail)
-        ≡ take (columns (take (truncated_end (cell t) width tail) (plain (cell t))))
-        (screen (cell t)) ++ (if has_tail (cell t) width tail then screen tail else []) }
-{}
-
-/// A padded text shows blanks, the columns of the cell and blanks, if a cluster ends on both sides of
-/// the cell.
-pub fn padded_shows_its_columns()
-    ensures { (t : List ℕ) (width : ℕ) (alignment : Alignment) → IsUtf8 t →
-        IsClusterBoundary (plain (padded (cell t) width alignment))
-        (before_text alignment (missing (cell t) width)) →
-        IsClusterBoundary (plain (padded (cell t) width alignment))
-        (before_text alignment (missing (cell t) width) + length (plain (cell t))) →
-        screen (padded (cell t) width alignment)
-        ≡ replicate (before_text alignment (missing (cell t) width)) plain_blank
-        ++ screen (cell t) ++ replicate (missing (cell t) width
-        - before_text alignment (missing (cell t) width)) plain_blank }
-{}
-
 /// A slice of a whole text is whole, and leaves no known style and no link open.
 pub fn slices_are_closed()
     ensures whole { (t : List ℕ) (start end : ℕ) → IsUtf8 t → IsTrue (is_whole t) →
@@ -304,4 +271,19 @@ pub fn slices_are_closed()
 pub fn slices_show_their_columns()
     ensures { (t : List ℕ) (start end : ℕ) → IsUtf8 t → IsTrue (is_whole t) →
         screen (sliced_up_to t start end) ≡ screen_slice start end (screen t) }
+{}
+
+/// A row shows its clusters, and a text what its row shows. If a cluster ends where two rows meet,
+/// they show the columns of the first and then those of the second. The front of a row that fits
+/// shows the front of its columns, columns of it what a slice shows, and blanks show blanks.
+pub fn rows_show_their_columns()
+    ensures text { (t : List ℕ) → screen t ≡ row_screen (row t) }
+    ensures joined { (r s : Row) → length r.linked ≡ length r.styled → IsUtf8 (row_bytes r) →
+        IsUtf8 (row_bytes s) → IsClusterBoundary (row_bytes (joined r s)) (length (row_bytes r)) →
+        row_screen (joined r s) ≡ row_screen r ++ row_screen s }
+    ensures fitting { (t : List ℕ) (width : ℕ) → IsUtf8 t → row_screen (fitting_row width (row t))
+        ≡ take (row_width (fitting_row width (row t))) (screen t) }
+    ensures columns { (t : List ℕ) (start end : ℕ) → IsUtf8 t → IsTrue (is_whole t) →
+        row_screen (row_columns start end (row t)) ≡ screen_slice start end (screen t) }
+    ensures blanks { (n : ℕ) → row_screen (blank_row n) ≡ replicate n plain_blank }
 {}

@@ -18,6 +18,8 @@ ghost use Rattle.ansi_safe.specs.Safe.{is_safe};
 ghost use Rattle.ansi_safe.specs.declared.policy.Links.TheVariants.{Keep};
 ghost use Rattle.ansi_columns.specs.OneLine.{is_one_line};
 ghost use Rattle.ansi_columns.specs.Columns.{columns};
+ghost use Rattle.ansi_columns.specs.Rows.{cell_row, row_screen, truncated_row, padded_row};
+ghost use Rattle.ansi_columns.specs.Screens.{screen};
 ghost use Rattle.ansi_columns.specs.Shown.{has_tail, truncated_width, truncated_ending};
 ghost use Rattle.ansi_columns.specs.Shown.{truncated, KeptStays};
 ghost use Rattle.ansi_columns.specs.Shown.{missing, before_text, blanks, between_blanks, closing};
@@ -70,6 +72,8 @@ pub fn truncate<'t, A: Allocator + Copy>(
     ensures safe { IfOk result (λ c. IsTrue (is_safe Keep (cow_str_bytes c))) }
     ensures one_line { IfOk result (λ c. IsTrue (is_one_line (cow_str_bytes c))) }
     ensures closed { IfOk result (λ c. IsClosed (cow_str_bytes c)) }
+    ensures screen { IfOk result (λ c. screen (cow_str_bytes c)
+        ≡ row_screen (truncated_row width (cell_row tail.now) (cell_row text.now))) }
     ensures borrowed { IfOk result (λ c. IsBorrowedStr c
         ↔ (KeptStays text.now width (closed_cell tail.now)
         × (truncated_ending (cell text.now) width (closed_cell tail.now) ≡ []))) }
@@ -391,6 +395,8 @@ pub fn pad<'t, A: Allocator + Copy>(
     ensures safe { IfOk result (λ c. IsTrue (is_safe Keep (cow_str_bytes c))) }
     ensures one_line { IfOk result (λ c. IsTrue (is_one_line (cow_str_bytes c))) }
     ensures closed { IfOk result (λ c. IsClosed (cow_str_bytes c)) }
+    ensures screen { IfOk result (λ c. screen (cow_str_bytes c)
+        ≡ row_screen (padded_row width alignment (cell_row text.now))) }
     ensures borrowed { IfOk result (λ c. IsBorrowedStr c ↔ ((cell text.now ≡ text.now)
         × (missing (cell text.now) width ≡ 0) × (closing (cell text.now) ≡ []))) }
     ensures len { IfOk result (λ c. length (cow_str_bytes c)

@@ -10,6 +10,8 @@ ghost use Rattle.ansi_safe.specs.Safe.{is_safe};
 ghost use Rattle.ansi_safe.specs.declared.policy.Links.TheVariants.{Keep};
 ghost use Rattle.ansi_columns.specs.Columns.{columns};
 ghost use Rattle.ansi_columns.specs.OneLine.{is_one_line};
+ghost use Rattle.ansi_columns.specs.Rows.{cell_row, row_screen, truncated_row_at};
+ghost use Rattle.ansi_columns.specs.Screens.{screen};
 ghost use Rattle.ansi_columns.specs.Shown.{truncated_ending, KeptStays, closing, closed_cell};
 ghost use Rattle.ansi_columns.specs.Sides.{is_cut_at_end, fitting_tail, cut_before_end};
 ghost use Rattle.ansi_columns.specs.Sides.{truncated_at};
@@ -141,6 +143,9 @@ pub fn truncate_with<'t, A: Allocator + Copy>(
     ensures safe { IfOk result (λ c. IsTrue (is_safe Keep (cow_str_bytes c))) }
     ensures one_line { IfOk result (λ c. IsTrue (is_one_line (cow_str_bytes c))) }
     ensures closed { IfOk result (λ c. IsClosed (cow_str_bytes c)) }
+    ensures screen { IfOk result (λ c. screen (cow_str_bytes c)
+        ≡ row_screen (truncated_row_at to.now.side to.now.width
+        (cell_row to.now.tail.now) (cell_row text.now))) }
     ensures borrowed { IfOk result (λ c. IsBorrowedStr c
         ↔ (KeptStays text.now to.now.width (closed_cell to.now.tail.now)
         × IsTrue (is_cut_at_end to.now.side (cell text.now) to.now.width)

@@ -1,6 +1,6 @@
 //! The lines of a wrapped text, ready for display. Each line opens the style and link carried into
 //! it, and closes them.
-ghost use Rattle.std.specs.Prelude.{◌≡◌, ◌↔◌, [], false, All, IsTrue, IsFalse};
+ghost use Rattle.std.specs.Prelude.{◌≡◌, ◌↔◌, [], false, map, All, IsTrue, IsFalse};
 ghost use Rattle.std.specs.List.{list_all};
 ghost use Rattle.ansi_items.specs.Plain.{has_escape};
 ghost use Rattle.ansi_safe.specs.Cells.{paragraph};
@@ -8,6 +8,8 @@ ghost use Rattle.ansi_safe.specs.Links.{IsClosed};
 ghost use Rattle.ansi_safe.specs.Safe.{is_safe};
 ghost use Rattle.ansi_safe.specs.declared.policy.Links.TheVariants.{Keep};
 ghost use Rattle.ansi_columns.specs.OneLine.{is_one_line};
+ghost use Rattle.ansi_columns.specs.Rows.{line_screens};
+ghost use Rattle.ansi_columns.specs.Screens.{screen};
 ghost use Rattle.ansi_columns.specs.Wrapped.{lent_lines, wrapped, IsWrapped, GivesLine};
 ghost use Rattle.ansi_columns.specs.WrapStates.{span_lines, AreSpans};
 
@@ -73,6 +75,7 @@ pub fn wrap<'t, A: Allocator + Copy>(alloc: A, text: &'t str, width: usize) -> A
     ensures safe { All (λ l. IsTrue (is_safe Keep l.bytes)) result }
     ensures one_line { All (λ l. IsTrue (is_one_line l.bytes)) result }
     ensures closed { All (λ l. IsClosed l.bytes) result }
+    ensures screen { map (λ l. screen l.bytes) result ≡ line_screens text.now width }
     ensures takes_no_memory { paragraph text.now ≡ text.now → IsFalse (has_escape text.now) →
         IsTrue (list_all (λ l. l.borrowed) result) }
 {

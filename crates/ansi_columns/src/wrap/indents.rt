@@ -1,5 +1,5 @@
 //! Wrapped lines with an indent before each.
-ghost use Rattle.std.specs.Prelude.{◌≡◌, ◌+◌, ◌++◌, [], All, IsTrue, IsFalse};
+ghost use Rattle.std.specs.Prelude.{◌≡◌, ◌+◌, ◌++◌, [], map, All, IsTrue, IsFalse};
 ghost use Rattle.std.specs.Prelude.{IsOk, IfOk, OnOk, OnErr};
 ghost use Rattle.std.specs.Prelude.{string_bytes};
 ghost use Rattle.std.specs.List.{list_all};
@@ -15,6 +15,8 @@ ghost use Rattle.ansi_split.specs.Splits.{CarriedPart, IsCarriedPart};
 ghost use Rattle.ansi_columns.specs.Columns.{columns};
 ghost use Rattle.ansi_columns.specs.Indents.{shown_indent, after_indent};
 ghost use Rattle.ansi_columns.specs.Indents.{wrapped_with, IsWrappedWith};
+ghost use Rattle.ansi_columns.specs.Rows.{indented_screens};
+ghost use Rattle.ansi_columns.specs.Screens.{screen};
 
 use crate::shown::closed_cell;
 use crate::views::View;
@@ -147,6 +149,8 @@ pub fn wrap_with<'t, 'a, A: Allocator + Copy>(
     ensures safe { All (λ l. IsTrue (is_safe Keep l.bytes)) result }
     ensures one_line { All (λ l. IsTrue (is_one_line l.bytes)) result }
     ensures closed { All (λ l. IsClosed l.bytes) result }
+    ensures screen { map (λ l. screen l.bytes) result ≡ indented_screens text.now to.now.width
+        to.now.first_indent.now to.now.indent.now }
     ensures takes_no_memory { paragraph text.now ≡ text.now → IsFalse (has_escape text.now) →
         to.now.first_indent.now ≡ [] → to.now.indent.now ≡ [] →
         IsTrue (list_all (λ l. l.borrowed) result) }

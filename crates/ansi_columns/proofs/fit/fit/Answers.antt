@@ -7,6 +7,7 @@ use Rattle.ansi_safe.specs.Cells.{cell}
 use Rattle.ansi_safe.specs.Links.{longest_link_end}
 use Rattle.ansi_columns.specs.Fitted.{fitted}
 use Rattle.ansi_columns.specs.Shown.{truncated_ending, truncated, KeptStays, missing, closing, closed_cell}
+use Rattle.ansi_columns.proofs.RowLemmas.{screen-fitted_cell}
 use Rattle.ansi_columns.proofs.TailLemmas.{shown-cell, shown-fitted, shown-safe, shown-one_line, shown-closed}
 use Rattle.ansi_columns.proofs.fit.fit.Goals as goal
 
@@ -29,6 +30,9 @@ pub returns-clause-closed : goal.returns-clause-closed
 returns-clause-closed g c =
     let shown = shown-fitted c.args.text.now c.utf8.text c.args.width (closed_cell c.args.tail.now) (shown-cell c.args.tail.now c.utf8.tail) c.args.alignment in
     IfOk-weaker c.fit_beside.result _ _ (λ s is. shown-closed shown is) (returns-clause-bytes g c)
+
+pub returns-clause-screen : goal.returns-clause-screen
+returns-clause-screen g c = IfOk-weaker c.fit_beside.result _ _ (λ s is. screen-fitted_cell c.args.text.now c.utf8.text c.args.tail.now c.utf8.tail c.args.width c.args.alignment is) (returns-clause-bytes g c)
 
 pub returns-clause-borrowed : goal.returns-clause-borrowed
 returns-clause-borrowed g c =

@@ -9,6 +9,7 @@ use Rattle.ansi_columns.proofs.CleanShownLemmas.{clean-padded_cell}
 use Rattle.ansi_columns.proofs.OneLineLemmas.{IsClean, clean-safe, clean-one_line}
 use Rattle.ansi_columns.proofs.StyledLawLemmas.{padded-is_closed}
 use Rattle.ansi_columns.proofs.PlainCellLemmas.{plain-padded}
+use Rattle.ansi_columns.proofs.RowLemmas.{screen-padded_cell}
 use Rattle.ansi_columns.proofs.ShownLemmas.{ending-closing, length-padded}
 use Rattle.ansi_columns.proofs.shown.pad.Goals as goal
 
@@ -26,6 +27,9 @@ returns-in-Some-clause-one_line g c = IfOk-weaker c.write_shown.result _ _ (λ s
 
 pub returns-in-Some-clause-closed : goal.returns-in-Some-clause-closed
 returns-in-Some-clause-closed g c = IfOk-weaker c.write_shown.result _ _ (λ s is. subst IsClosed (sym is) (padded-is_closed (cell c.args.text.now) c.args.width c.args.alignment (whole-cell c.args.text.now c.utf8.text))) (returns-in-Some-clause-bytes g c)
+
+pub returns-in-Some-clause-screen : goal.returns-in-Some-clause-screen
+returns-in-Some-clause-screen g c = IfOk-weaker c.write_shown.result _ _ (λ s is. screen-padded_cell c.args.text.now c.utf8.text c.args.width c.args.alignment is) (returns-in-Some-clause-bytes g c)
 
 pub returns-in-Some-clause-borrowed : goal.returns-in-Some-clause-borrowed
 returns-in-Some-clause-borrowed g c =
@@ -65,6 +69,9 @@ returns-clause-one_line g c = IfOk-weaker c.pad_cell.result _ _ (λ s is. clean-
 
 pub returns-clause-closed : goal.returns-clause-closed
 returns-clause-closed g c = IfOk-weaker c.pad_cell.result _ _ (λ s is. subst IsClosed (sym is) (padded-is_closed (cell c.args.text.now) c.args.width c.args.alignment (whole-cell c.args.text.now c.utf8.text))) (returns-clause-bytes g c)
+
+pub returns-clause-screen : goal.returns-clause-screen
+returns-clause-screen g c = IfOk-weaker c.pad_cell.result _ _ (λ s is. screen-padded_cell c.args.text.now c.utf8.text c.args.width c.args.alignment is) (returns-clause-bytes g c)
 
 pub returns-clause-borrowed : goal.returns-clause-borrowed
 returns-clause-borrowed g c =

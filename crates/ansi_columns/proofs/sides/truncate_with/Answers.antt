@@ -7,6 +7,7 @@ use Rattle.ansi_safe.specs.Cells.{cell}
 use Rattle.ansi_safe.specs.Links.{longest_link_end}
 use Rattle.ansi_columns.specs.Shown.{truncated_ending, KeptStays, closed_cell}
 use Rattle.ansi_columns.specs.Sides.{is_cut_at_end, truncated_at}
+use Rattle.ansi_columns.proofs.RowLemmas.{screen-truncated_cell_at}
 use Rattle.ansi_columns.proofs.TailLemmas.{shown-cell, shown-truncated_at, shown-safe, shown-one_line, shown-closed}
 use Rattle.ansi_columns.proofs.sides.truncate_with.Goals as goal
 
@@ -29,6 +30,9 @@ pub returns-clause-closed : goal.returns-clause-closed
 returns-clause-closed g c =
     let shown = shown-truncated_at c.args.text.now c.utf8.text c.args.to.now.width (closed_cell c.args.to.now.tail.now) (shown-cell c.args.to.now.tail.now c.closed_cell.ensures.utf8) c.args.to.now.side in
     IfOk-weaker c.truncate_with_beside.result _ _ (λ s is. shown-closed shown is) (returns-clause-bytes g c)
+
+pub returns-clause-screen : goal.returns-clause-screen
+returns-clause-screen g c = IfOk-weaker c.truncate_with_beside.result _ _ (λ s is. screen-truncated_cell_at c.args.text.now c.utf8.text c.args.to.now.tail.now c.closed_cell.ensures.utf8 c.args.to.now.width c.args.to.now.side is) (returns-clause-bytes g c)
 
 pub returns-clause-borrowed : goal.returns-clause-borrowed
 returns-clause-borrowed g c =

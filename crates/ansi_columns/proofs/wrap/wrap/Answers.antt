@@ -1,4 +1,4 @@
-use Rattle.std.proofs.Common.{All, IsTrue, sym, ◌∙◌, ap, subst}
+use Rattle.std.proofs.Common.{All, map, IsTrue, sym, ◌∙◌, ap, subst}
 use Rattle.std.specs.List.{list_all}
 use Rattle.std.specs.declared.alloc.AllocError.{AllocError}
 use Rattle.std.proofs.lemmas.Bool.{false≢true}
@@ -15,6 +15,8 @@ use Rattle.ansi_columns.proofs.OneLineLemmas.{clean-safe, clean-one_line, safe-p
 use Rattle.ansi_columns.specs.Lines.{lines}
 use Rattle.ansi_columns.proofs.FirstFitLemmas.{lines-first_fit}
 use Rattle.ansi_columns.proofs.LentLemmas.{made-wrapped, failed-wrapped, wrapped-bare}
+use Rattle.ansi_columns.specs.Screens.{screen}
+use Rattle.ansi_columns.proofs.WrapScreenLemmas.{wrapped-screens}
 use Rattle.ansi_columns.proofs.wrap.wrap.Goals as goal
 
 -- the paragraph was made
@@ -34,6 +36,9 @@ returns-in-Ok-clause-one_line g c = subst (All (λ (l : CarriedPart). IsTrue (is
 
 pub returns-in-Ok-clause-closed : goal.returns-in-Ok-clause-closed
 returns-in-Ok-clause-closed g c = subst (All (λ (l : CarriedPart). IsClosed l.bytes)) (sym (returns-in-Ok-clause-lines g c)) (λ k d lt. (wrapped_are_shut c.args.text.now c.args.width (safe-paragraph c.args.text.now c.utf8.text) k d lt).closed)
+
+pub returns-in-Ok-clause-screen : goal.returns-in-Ok-clause-screen
+returns-in-Ok-clause-screen g c = ap (map (λ (l : CarriedPart). screen l.bytes)) (returns-in-Ok-clause-lines g c) ∙ wrapped-screens c.args.text.now c.args.width c.utf8.text (safe-paragraph c.args.text.now c.utf8.text)
 
 pub returns-in-Ok-clause-takes_no_memory : goal.returns-in-Ok-clause-takes_no_memory
 returns-in-Ok-clause-takes_no_memory g c =
@@ -56,6 +61,9 @@ returns-in-Err-clause-one_line g c = subst (All (λ (l : CarriedPart). IsTrue (i
 
 pub returns-in-Err-clause-closed : goal.returns-in-Err-clause-closed
 returns-in-Err-clause-closed g c = subst (All (λ (l : CarriedPart). IsClosed l.bytes)) (sym (returns-in-Err-clause-lines g c)) (λ k d lt. (wrapped_are_shut c.args.text.now c.args.width (safe-paragraph c.args.text.now c.utf8.text) k d lt).closed)
+
+pub returns-in-Err-clause-screen : goal.returns-in-Err-clause-screen
+returns-in-Err-clause-screen g c = ap (map (λ (l : CarriedPart). screen l.bytes)) (returns-in-Err-clause-lines g c) ∙ wrapped-screens c.args.text.now c.args.width c.utf8.text (safe-paragraph c.args.text.now c.utf8.text)
 
 pub returns-in-Err-clause-takes_no_memory : goal.returns-in-Err-clause-takes_no_memory
 returns-in-Err-clause-takes_no_memory g c = λ same none. absurd (false≢true (c.in-Err.ensures.takes_no_memory same))

@@ -1,4 +1,4 @@
-use Rattle.std.proofs.Common.{All, IsTrue, sym, ◌∙◌, ap, ap₂, subst}
+use Rattle.std.proofs.Common.{All, map, IsTrue, sym, ◌∙◌, ap, ap₂, subst}
 use Rattle.std.specs.List.{list_all}
 use Rattle.ansi_safe.specs.declared.policy.Links.TheVariants.{Keep}
 use Rattle.ansi_safe.specs.Links.{IsClosed}
@@ -10,6 +10,8 @@ use Rattle.ansi_columns.proofs.CleanLineLemmas.{clean-wrapped_with}
 use Rattle.ansi_columns.proofs.IndentLawLemmas.{shut-wrapped_with}
 use Rattle.ansi_columns.proofs.IndentLemmas.{indented-borrowed}
 use Rattle.ansi_columns.proofs.OneLineLemmas.{clean-safe, clean-one_line, safe-paragraph}
+use Rattle.ansi_columns.specs.Screens.{screen}
+use Rattle.ansi_columns.proofs.RowLemmas.{screens-wrapped_with}
 use Rattle.ansi_columns.proofs.wrap.indents.wrap_with.Goals as goal
 
 pub returns-clause-lines : goal.returns-clause-lines
@@ -29,3 +31,8 @@ returns-clause-one_line g c = subst (All (λ (l : CarriedPart). IsTrue (is_one_l
 
 pub returns-clause-closed : goal.returns-clause-closed
 returns-clause-closed g c = subst (All (λ (l : CarriedPart). IsClosed l.bytes)) (sym (returns-clause-lines g c)) (λ k d lt. (shut-wrapped_with c.args.text.now c.args.to.now.first_indent.now c.args.to.now.indent.now c.args.to.now.width (safe-paragraph c.args.text.now c.utf8.text) c.text_width.ensures.first c.text_width.ensures.later k d lt).closed)
+
+pub returns-clause-screen : goal.returns-clause-screen
+returns-clause-screen g c =
+    ap (map (λ (l : CarriedPart). screen l.bytes)) (returns-clause-lines g c)
+    ∙ screens-wrapped_with c.args.text.now c.args.to.now.first_indent.now c.args.to.now.indent.now c.args.to.now.width c.utf8.text c.text_width.ensures.first c.text_width.ensures.later
