@@ -4,3 +4,5 @@ pub mod GivenLemmas
 pub mod ListLemmas
 pub mod ByteLemmas
 pub mod LineListLemmas
+pub mod LinkListLemmas
+pub mod MadeLemmas

@@ -6,4 +6,5 @@ pub mod Walks
 pub mod Columns
 pub mod Safe
 pub mod Restyles
+pub mod Links
 pub mod Calls

@@ -3,10 +3,12 @@ use Rattle.std.specs.Prelude.{◌≡◌, ℕ, not, ◌&&◌, ◌==◌, List, [],
 use Rattle.std.specs.Option.{option_map_or}
 use Rattle.ansi_items.specs.Plain.{plain}
 use Rattle.ansi_search.specs.Matches.{first_match_from}
+use Rattle.ansi_search.specs.Positions.{is_char_boundary}
 use Rattle.ansi_style.specs.Written.{written}
 use Rattle.ansi_restyle.specs.Matches.{matches}
 use Rattle.ansi_restyle.specs.Ranges.{are_in_turn, are_empty}
 use Rattle.ansi_restyle.specs.Removed.{removed}
+use Rattle.ansi_restyle.specs.Replaced.{replaced}
 use Rattle.ansi_restyle.specs.Restyled.{is_change, restyled}
 use Rattle.ansi_calls.specs.declared.answers.Answer.{Answer}
 use Rattle.ansi_calls.specs.declared.lists.ListAnswer.{ListAnswer}
@@ -71,3 +73,29 @@ GivesRemoved t start end answer old new =
 -- `remove` does so
 abbrev pub Removes : List ℕ → ℕ → ℕ → Answer → List ℕ → List ℕ → Type 0
 Removes t start end answer old new = OnUtf8 (t ∷ []) (GivesRemoved t start end answer old new) (HasFailed not_utf8 answer old new)
+
+-- the text t with w in place of its plain bytes from one position up to another, if that is a range of it
+abbrev pub replaced_or_none : List ℕ → ℕ → ℕ → List ℕ → Option (List ℕ)
+replaced_or_none t start end w = if are_in_turn (plain t) 0 ((start, end) ∷ []) then Some (replaced t start end w) else None
+
+-- a call writes that text, and allocates only if it is such a range and either it or w isn't empty; it is refused if it isn't such a range
+unfoldable pub GivesReplaced : List ℕ → ℕ → ℕ → List ℕ → Answer → List ℕ → List ℕ → Type 0
+GivesReplaced t start end w answer old new =
+    Gives refused (are_in_turn (plain t) 0 ((start, end) ∷ []) && not (start == end && length w == 0)) (replaced_or_none t start end w) answer old new
+
+-- `replace` does so
+abbrev pub Replaces : List ℕ → ℕ → ℕ → List ℕ → Answer → List ℕ → List ℕ → Type 0
+Replaces t start end w answer old new = OnUtf8 (t ∷ w ∷ []) (GivesReplaced t start end w answer old new) (HasFailed not_utf8 answer old new)
+
+-- the text t with w put in at a position, if that is one of its character boundaries
+abbrev pub inserted_or_none : List ℕ → ℕ → List ℕ → Option (List ℕ)
+inserted_or_none t position w = if is_char_boundary (plain t) position then Some (replaced t position position w) else None
+
+-- a call writes that text, and allocates only if it is such a position and w isn't empty; it is refused if it isn't such a position
+unfoldable pub GivesInserted : List ℕ → ℕ → List ℕ → Answer → List ℕ → List ℕ → Type 0
+GivesInserted t position w answer old new =
+    Gives refused (is_char_boundary (plain t) position && not (length w == 0)) (inserted_or_none t position w) answer old new
+
+-- `insert` does so
+abbrev pub Inserts : List ℕ → ℕ → List ℕ → Answer → List ℕ → List ℕ → Type 0
+Inserts t position w answer old new = OnUtf8 (t ∷ w ∷ []) (GivesInserted t position w answer old new) (HasFailed not_utf8 answer old new)

@@ -10,6 +10,7 @@ pub mod blocks;
 pub mod columns;
 pub mod edits;
 pub mod lines;
+pub mod links;
 pub mod lists;
 pub mod restyles;
 pub mod safe;

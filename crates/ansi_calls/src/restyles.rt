@@ -1,16 +1,18 @@
 //! Calls on matches and on ranges: where a pattern occurs, parts of a text in another style, and a
-//! text without a part.
+//! text without a part or with another text in its place.
 ghost use Rattle.std.specs.Prelude.{◌≡◌, ◌≤◌, ◌+◌, ◌++◌, [], length, drop};
 ghost use Rattle.std.specs.Prelude.{IfOk, IsOk};
 ghost use Rattle.ansi_calls.specs.Lists.{AreWritten};
 ghost use Rattle.ansi_calls.specs.Restyles.{match_entries, WritesMatches, ranges_of};
 ghost use Rattle.ansi_calls.specs.Restyles.{Restyles, GivesRestyled, Marks, GivesMarked};
 ghost use Rattle.ansi_calls.specs.Restyles.{Removes, GivesRemoved};
+ghost use Rattle.ansi_calls.specs.Restyles.{Replaces, GivesReplaced, Inserts, GivesInserted};
 
 use crate::answers::{Answer, NOT_UTF8, OK, OUT_OF_MEMORY, REFUSED, TOO_SMALL, write_found};
 use crate::lists::{ListAnswer, put};
 use ansi_restyle::matches::Matches;
 use ansi_restyle::remove::remove_in;
+use ansi_restyle::replace::{insert_in, replace_in};
 use ansi_restyle::restyle::{mark_in, restyle_in};
 use ansi_safe::utf8::from_utf8;
 use std::alloc::{AllocError, Allocator};
@@ -193,4 +195,74 @@ fn remove_text<A: Allocator>(
     ensures { GivesRemoved text.now start end result buffer.old buffer.new }
 {
     write_found(remove_in(alloc, text, (start, end)), REFUSED, buffer)
+}
+
+/// The text with another text in place of its plain bytes from one position up to another. The call
+/// is refused if that is no range of it.
+pub fn replace<A: Allocator>(
+    alloc: A,
+    text: &[u8],
+    start: usize,
+    end: usize,
+    with: &[u8],
+    buffer: &mut [u8],
+) -> Answer
+    ensures { Replaces text.now start end with.now result buffer.old buffer.new }
+{
+    let Ok(text) = from_utf8(text) else {
+        return Answer::failed(NOT_UTF8);
+    };
+    match from_utf8(with) {
+        Ok(with) => replace_text(alloc, text, start, end, with, buffer),
+        Err(_) => Answer::failed(NOT_UTF8),
+    }
+}
+
+/// The same for texts that are known to be UTF-8.
+#[tactic(auto, unfolding(crate::specs::Restyles::GivesReplaced))]
+fn replace_text<A: Allocator>(
+    alloc: A,
+    text: &str,
+    start: usize,
+    end: usize,
+    with: &str,
+    buffer: &mut [u8],
+) -> Answer
+    ensures { GivesReplaced text.now start end with.now result buffer.old buffer.new }
+{
+    write_found(replace_in(alloc, text, (start, end), with), REFUSED, buffer)
+}
+
+/// The text with another text put in at a position. The call is refused if that is no character
+/// boundary of its plain text.
+pub fn insert<A: Allocator>(
+    alloc: A,
+    text: &[u8],
+    position: usize,
+    with: &[u8],
+    buffer: &mut [u8],
+) -> Answer
+    ensures { Inserts text.now position with.now result buffer.old buffer.new }
+{
+    let Ok(text) = from_utf8(text) else {
+        return Answer::failed(NOT_UTF8);
+    };
+    match from_utf8(with) {
+        Ok(with) => insert_text(alloc, text, position, with, buffer),
+        Err(_) => Answer::failed(NOT_UTF8),
+    }
+}
+
+/// The same for texts that are known to be UTF-8.
+#[tactic(auto, unfolding(crate::specs::Restyles::GivesInserted))]
+fn insert_text<A: Allocator>(
+    alloc: A,
+    text: &str,
+    position: usize,
+    with: &str,
+    buffer: &mut [u8],
+) -> Answer
+    ensures { GivesInserted text.now position with.now result buffer.old buffer.new }
+{
+    write_found(insert_in(alloc, text, position, with), REFUSED, buffer)
 }

@@ -2,7 +2,7 @@
 
    Units. The plain text is the text without its sequences. Positions and lengths count bytes: positions those of the plain
    text, lengths those of what is written. A position past the end of the plain text counts as its end, so a cut with the
-   end SIZE_MAX goes up to the end; only ansi_str_restyle and ansi_str_remove refuse it.
+   end SIZE_MAX goes up to the end; only the calls from ansi_str_restyle to ansi_str_link refuse it.
 
    Texts and buffers. A call takes each text and each pattern as a pointer and a length. They are UTF-8, need no 0 at their
    end and may contain one, and are read only during the call. The call writes its result into the caller's buffer. So
@@ -40,7 +40,7 @@ enum {
     ANSI_STR_OK = 0,
     /* it is false, or there is no such thing: no match of the pattern, no part or block of that index, or no link there */
     ANSI_STR_NO = 1,
-    /* a position is inside a character, or the end of a range is below its start; an edit is refused; or codes or ranges are */
+    /* a position is inside a character, or the end of a range is below its start; an edit is refused; or codes, ranges or an address are */
     ANSI_STR_REFUSED = 2,
     /* the text or a pattern isn't UTF-8 */
     ANSI_STR_NOT_UTF8 = 3,
@@ -205,6 +205,13 @@ typedef struct {
     size_t end;
 } ansi_str_range;
 
+/* A link of a text: where its range begins and ends, in bytes of the plain text, and where its address ends in the buffer. */
+typedef struct {
+    size_t start;
+    size_t end;
+    size_t address_end;
+} ansi_str_link_entry;
+
 /* A walk over the blocks of a text. Its state is the library's own: a caller must not read or set it. The text must live and
    stay unchanged while the walk is used. A copy of a walk is independent of it. */
 typedef union {
@@ -298,6 +305,15 @@ ansi_str_answer ansi_str_raw_mark(const uint8_t *text, size_t text_len, const ui
                                   const uint8_t *codes, size_t codes_len, uint8_t *buffer, size_t buffer_len);
 ansi_str_answer ansi_str_raw_remove(const uint8_t *text, size_t text_len, size_t start, size_t end, uint8_t *buffer,
                                     size_t buffer_len);
+ansi_str_answer ansi_str_raw_replace(const uint8_t *text, size_t text_len, size_t start, size_t end, const uint8_t *with,
+                                     size_t with_len, uint8_t *buffer, size_t buffer_len);
+ansi_str_answer ansi_str_raw_insert(const uint8_t *text, size_t text_len, size_t position, const uint8_t *with, size_t with_len,
+                                    uint8_t *buffer, size_t buffer_len);
+ansi_str_answer ansi_str_raw_link(const uint8_t *text, size_t text_len, size_t start, size_t end, const uint8_t *address,
+                                  size_t address_len, uint8_t *buffer, size_t buffer_len);
+ansi_str_answer ansi_str_raw_unlink(const uint8_t *text, size_t text_len, uint8_t *buffer, size_t buffer_len);
+ansi_str_answers ansi_str_raw_links(const uint8_t *text, size_t text_len, uint8_t *buffer, size_t buffer_len,
+                                    ansi_str_link_entry *links, size_t links_len);
 ansi_str_answer ansi_str_raw_starts_with(const uint8_t *text, size_t text_len, const uint8_t *pattern,
                                          size_t pattern_len);
 ansi_str_answer ansi_str_raw_ends_with(const uint8_t *text, size_t text_len, const uint8_t *pattern,
@@ -505,6 +521,61 @@ static inline ansi_str_answer ansi_str_mark(const char *text, size_t text_len, c
 static inline ansi_str_answer ansi_str_remove(const char *text, size_t text_len, size_t start, size_t end, char *buffer,
                                               size_t buffer_len) {
     return ansi_str_raw_remove(ansi_str_bytes(text), text_len, start, end, ansi_str_room(buffer), buffer_len);
+}
+
+/* The text with another text in place of its plain bytes from one position up to another. The new text is in the style and the
+   link of the character before `start`; at the front, of the first one. Its own sequences come on top of that, and what they open
+   ends with it. Each character before the range or after it keeps its style and its link. Every sequence of the text stays, those
+   in the range behind the new text. The result is at most ANSI_STR_LONGEST_START_AND_CLOSE + ANSI_STR_LONGEST_LINK_END bytes
+   longer than both texts and the sequence of the link there. ANSI_STR_REFUSED: as ansi_str_remove. ANSI_STR_NOT_UTF8: one of the
+   texts isn't UTF-8. Allocates if the range or the new text isn't empty, on any text.
+   "\x1b[32mgreen\x1b[39m" from 1 up to 3 with "\x1b[1mAB" gives "\x1b[32mg\x1b[1mAB\x1b[22m\x1b[39m\x1b[32men\x1b[39m". */
+static inline ansi_str_answer ansi_str_replace(const char *text, size_t text_len, size_t start, size_t end, const char *with,
+                                               size_t with_len, char *buffer, size_t buffer_len) {
+    return ansi_str_raw_replace(ansi_str_bytes(text), text_len, start, end, ansi_str_bytes(with), with_len, ansi_str_room(buffer),
+                                buffer_len);
+}
+
+/* The text with another text put in at a position, as ansi_str_replace does it with an empty range there. ANSI_STR_REFUSED: the
+   position is past the end of the plain text or inside a character. Allocates if the new text isn't empty, on any text.
+   "\x1b[32mgreen\x1b[39m." at 5 with "ish" gives "\x1b[32mgreenish\x1b[39m.". */
+static inline ansi_str_answer ansi_str_insert(const char *text, size_t text_len, size_t position, const char *with,
+                                              size_t with_len, char *buffer, size_t buffer_len) {
+    return ansi_str_raw_insert(ansi_str_bytes(text), text_len, position, ansi_str_bytes(with), with_len, ansi_str_room(buffer),
+                               buffer_len);
+}
+
+/* The text with its plain bytes from one position up to another linked to an address (OSC 8, without parameters). Each character in
+   the range loses another link that it had. Every other character keeps its link: one that goes on into the range ends before it,
+   and one that goes on after it is opened again there. The plain text, the styles and all other sequences stay. The result is at
+   most 21 bytes longer than the text, the address, and the sequence of the link that is open at `end`. ANSI_STR_REFUSED: as
+   ansi_str_remove; or the address is empty or has a byte that isn't printable ASCII (20 to 7E). ANSI_STR_NOT_UTF8: the text or the
+   address isn't UTF-8. Allocates if the range isn't empty, on any text.
+   "see \x1b[1mhere" from 4 up to 8 with "http://x" gives "see \x1b[1m\x1b]8;;http://x\x1b\\here\x1b]8;;\x1b\\". */
+static inline ansi_str_answer ansi_str_link(const char *text, size_t text_len, size_t start, size_t end, const char *address,
+                                            size_t address_len, char *buffer, size_t buffer_len) {
+    return ansi_str_raw_link(ansi_str_bytes(text), text_len, start, end, ansi_str_bytes(address), address_len,
+                             ansi_str_room(buffer), buffer_len);
+}
+
+/* The text without its links: its OSC 8 sequences are left out, and everything else stays. It is never longer than the text.
+   Allocates if there is such a sequence.
+   "\x1b]8;;http://x\x1b\\a \x1b[1mlink\x1b[0m\x1b]8;;\x1b\\" gives "a \x1b[1mlink\x1b[0m". */
+static inline ansi_str_answer ansi_str_unlink(const char *text, size_t text_len, char *buffer, size_t buffer_len) {
+    return ansi_str_raw_unlink(ansi_str_bytes(text), text_len, ansi_str_room(buffer), buffer_len);
+}
+
+/* The links of the text, in order: their addresses one after the other, and for each where its range begins and ends in the
+   plain text and where its address ends in the buffer. An OSC 8 sequence with an address opens a link, which goes on up to the
+   next OSC 8 sequence or the end of the text. A link without text is left out. The returned count is the number of links, and the
+   length that of all addresses; neither is more than text_len. ANSI_STR_TOO_SMALL: there are more than `links_len` links or
+   `buffer_len` bytes. Doesn't allocate.
+   "a \x1b]8;;http://x\x1b\\l\x1b[1mink\x1b]8;;\x1b\\" has a link from 2 up to 6 to "http://x". */
+static inline ansi_str_answers ansi_str_links(const char *text, size_t text_len, char *buffer, size_t buffer_len,
+                                              ansi_str_link_entry *links, size_t links_len) {
+    ansi_str_link_entry none;
+    return ansi_str_raw_links(ansi_str_bytes(text), text_len, ansi_str_room(buffer), buffer_len, links == NULL ? &none : links,
+                              links_len);
 }
 
 /* Whether the plain text begins with the pattern: ANSI_STR_OK or ANSI_STR_NO. Doesn't allocate. */

@@ -5,6 +5,7 @@
 
 pub mod blocks;
 pub mod columns;
+pub mod links;
 pub mod lists;
 pub mod restyles;
 pub mod safe;

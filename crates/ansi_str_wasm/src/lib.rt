@@ -5,6 +5,7 @@
 #![tactic(auto)]
 
 pub mod columns;
+pub mod links;
 pub mod lists;
 mod memory;
 pub mod restyles;

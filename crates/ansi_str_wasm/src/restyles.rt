@@ -1,11 +1,12 @@
 //! Calls on matches and on ranges: where a pattern occurs, parts of a text in another style, and a
-//! text without a part.
+//! text without a part or with another text in its place.
 ghost use Rattle.ansi_calls.specs.Restyles.{WritesMatches, Restyles, Marks, Removes};
+ghost use Rattle.ansi_calls.specs.Restyles.{Replaces, Inserts};
 
 use crate::memory::arena_of;
 use ansi_calls::answers::Answer;
 use ansi_calls::lists::ListAnswer;
-use ansi_calls::restyles::{RangeEntry, mark, matches, remove, restyle};
+use ansi_calls::restyles::{RangeEntry, insert, mark, matches, remove, replace, restyle};
 use one_block::{MemoryBlock, OneBlock};
 
 /// Where each match of a pattern begins and ends in the plain text.
@@ -63,4 +64,35 @@ pub extern "C" fn ansi_str_raw_remove(
 {
     let block = OneBlock::new(memory);
     remove(&arena_of(&block), text, start, end, buffer)
+}
+
+/// The text with another text in place of its plain bytes from one position up to another.
+#[unsafe(no_mangle)]
+pub extern "C" fn ansi_str_raw_replace(
+    memory: MemoryBlock,
+    text: &[u8],
+    start: usize,
+    end: usize,
+    with: &[u8],
+    buffer: &mut [u8],
+) -> Answer
+    ensures { Replaces text.now start end with.now result buffer.old buffer.new }
+{
+    let block = OneBlock::new(memory);
+    replace(&arena_of(&block), text, start, end, with, buffer)
+}
+
+/// The text with another text put in at a position.
+#[unsafe(no_mangle)]
+pub extern "C" fn ansi_str_raw_insert(
+    memory: MemoryBlock,
+    text: &[u8],
+    position: usize,
+    with: &[u8],
+    buffer: &mut [u8],
+) -> Answer
+    ensures { Inserts text.now position with.now result buffer.old buffer.new }
+{
+    let block = OneBlock::new(memory);
+    insert(&arena_of(&block), text, position, with, buffer)
 }
