@@ -201,6 +201,14 @@ static ansi_str_answer call(const struct row *r, char *buffer, size_t len) {
         return ansi_str_mark(TEXT(t), TEXT(argument(r, 0)), TEXT(argument(r, 1)), buffer, len);
     } else if (strcmp(name, "remove") == 0) {
         return ansi_str_remove(TEXT(t), position(r, 0), position(r, 1), buffer, len);
+    } else if (strcmp(name, "replace") == 0) {
+        return ansi_str_replace(TEXT(t), position(r, 0), position(r, 1), TEXT(argument(r, 2)), buffer, len);
+    } else if (strcmp(name, "insert") == 0) {
+        return ansi_str_insert(TEXT(t), position(r, 0), TEXT(argument(r, 1)), buffer, len);
+    } else if (strcmp(name, "link") == 0) {
+        return ansi_str_link(TEXT(t), position(r, 0), position(r, 1), TEXT(argument(r, 2)), buffer, len);
+    } else if (strcmp(name, "unlink") == 0) {
+        return ansi_str_unlink(TEXT(t), buffer, len);
     } else if (strcmp(name, "restyle") == 0) {
         ansi_str_range *ranges = ranges_of(r, &count);
         ansi_str_answer restyled = ansi_str_restyle(TEXT(t), ranges, count, TEXT(argument(r, 0)), buffer, len);
@@ -448,6 +456,43 @@ static void expect_matches(const struct row *r) {
     }
     expect("nothing more is written", is_guard((const char *)&ranges[count], 0, sizeof *ranges));
     free(ranges);
+}
+
+/* The range and the address of each link of a row's text: with more room than that, and with too little. The call doesn't allocate. */
+static void expect_links(const struct row *r) {
+    const struct text *t = text_of(r);
+    size_t count = number(r, 2), len = 0, start = 0;
+    uint32_t status = status_of(r);
+    expect("links", r->count == 4 + 2 * count);
+    for (size_t i = 0; i < count; i++) {
+        len += argument(r, 2 * i + 1)->len;
+    }
+    ansi_str_link_entry *links = __real_malloc((count + 1) * sizeof *links);
+    memset(links, GUARD, (count + 1) * sizeof *links);
+    char *buffer = guarded(len);
+    ansi_str_answers answer;
+    granted = 0;
+    if (count > 0) {
+        answer = ansi_str_links(TEXT(t), buffer, len, links, count - 1);
+        expect("too few entries", answer.status == ANSI_STR_TOO_SMALL && answer.count == count && answer.len == len);
+        answer = ansi_str_links(TEXT(t), buffer, len - 1, links, count);
+        expect("too small a buffer", answer.status == ANSI_STR_TOO_SMALL && answer.count == count && answer.len == len);
+        expect("nothing is written", is_guard(buffer, 0, len + 1) && is_guard((const char *)links, 0, (count + 1) * sizeof *links));
+    }
+    answer = ansi_str_links(TEXT(t), buffer, len + 1, links, count + 1);
+    granted = -1;
+    expect("links", answer.status == status && answer.count == count && answer.len == len);
+    for (size_t i = 0; i < count; i++) {
+        const struct text *address = argument(r, 2 * i + 1);
+        char interval[64];
+        snprintf(interval, sizeof interval, "%zu,%zu", links[i].start, links[i].end);
+        expect("a range", strcmp(interval, argument(r, 2 * i)->bytes) == 0);
+        expect("an address", links[i].address_end == start + address->len && memcmp(buffer + start, address->bytes, address->len) == 0);
+        start = links[i].address_end;
+    }
+    expect("nothing more is written", buffer[len] == GUARD && is_guard((const char *)&links[count], 0, sizeof *links));
+    free(buffer);
+    free(links);
 }
 
 /* With this room, which is too small, a call for all parts or lines writes nothing, and returns how much they need. */
@@ -731,7 +776,13 @@ static void expect_failures(void) {
                                        ansi_str_find_from("\xff", 1, 0, "a", 1),
                                        ansi_str_restyle("\xff", 1, NULL, 0, "m", 1, buffer, 8),
                                        ansi_str_mark("a", 1, "a", 1, "\xff", 1, buffer, 8),
-                                       ansi_str_remove("\xff", 1, 1, 0, buffer, 8)};
+                                       ansi_str_remove("\xff", 1, 1, 0, buffer, 8),
+                                       ansi_str_replace("\xff", 1, 1, 0, "a", 1, buffer, 8),
+                                       ansi_str_replace("a", 1, 1, 0, "\xff", 1, buffer, 8),
+                                       ansi_str_insert("a", 1, 2, "\xff", 1, buffer, 8),
+                                       ansi_str_link("\xff", 1, 0, 0, "", 0, buffer, 8),
+                                       ansi_str_link("a", 1, 1, 0, "\xff", 1, buffer, 8),
+                                       ansi_str_unlink("\xff", 1, buffer, 8)};
     for (size_t i = 0; i < sizeof answers / sizeof answers[0]; i++) {
         expect("no UTF-8", answers[i].status == ANSI_STR_NOT_UTF8 && answers[i].len == 0);
     }
@@ -746,6 +797,9 @@ static void expect_failures(void) {
     expect("no UTF-8", next.status == ANSI_STR_NOT_UTF8 && next.len == 0);
     next = ansi_str_lines_next(&walk, &line);
     expect("no line", next.status == ANSI_STR_NO && line.end == 0);
+    ansi_str_link_entry link = {1, 1, 1};
+    lines = ansi_str_links("\xff", 1, buffer, 8, &link, 1);
+    expect("no UTF-8", lines.status == ANSI_STR_NOT_UTF8 && lines.count == 0 && lines.len == 0 && link.end == 1);
     lines = ansi_str_lines(NULL, 0, 0, NULL, 0);
     expect("one line", lines.status == ANSI_STR_TOO_SMALL && lines.count == 1 && lines.len == 0);
     lines = ansi_str_wrap(NULL, 0, 0, NULL, 0, NULL, 0);
@@ -784,6 +838,12 @@ static void expect_failures(void) {
     expect("nothing", ansi_str_restyle(NULL, 0, NULL, 0, NULL, 0, NULL, 0).status == ANSI_STR_OK);
     expect("nothing", ansi_str_mark(NULL, 0, NULL, 0, NULL, 0, NULL, 0).status == ANSI_STR_OK);
     expect("nothing", ansi_str_remove(NULL, 0, 0, 0, NULL, 0).status == ANSI_STR_OK);
+    expect("nothing", ansi_str_replace(NULL, 0, 0, 0, NULL, 0, NULL, 0).status == ANSI_STR_OK);
+    expect("nothing", ansi_str_insert(NULL, 0, 0, NULL, 0, NULL, 0).status == ANSI_STR_OK);
+    expect("no address", ansi_str_link(NULL, 0, 0, 0, NULL, 0, NULL, 0).status == ANSI_STR_REFUSED);
+    expect("nothing", ansi_str_unlink(NULL, 0, NULL, 0).status == ANSI_STR_OK);
+    lines = ansi_str_links(NULL, 0, NULL, 0, NULL, 0);
+    expect("no link", lines.status == ANSI_STR_OK && lines.count == 0 && lines.len == 0);
     lines = ansi_str_matches(NULL, 0, NULL, 0, NULL, 0);
     expect("one match", lines.status == ANSI_STR_TOO_SMALL && lines.count == 1 && lines.len == 0);
     expect("nothing", ansi_str_sanitize(NULL, 0, ANSI_STR_DROP, ANSI_STR_REMOVE_LINKS, NULL, 0).status == ANSI_STR_OK);
@@ -857,6 +917,8 @@ static void expect_row(const struct row *r) {
         expect_lines(r);
     } else if (strcmp(name, "matches") == 0) {
         expect_matches(r);
+    } else if (strcmp(name, "links") == 0) {
+        expect_links(r);
     } else if (strcmp(name, "blocks") == 0) {
         expect_blocks(r);
     } else if (strcmp(name, "styled_blocks") == 0) {

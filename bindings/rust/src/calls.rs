@@ -145,6 +145,15 @@ pub(crate) struct RawRange {
     pub(crate) end: usize,
 }
 
+/// A link: its range, and where its address ends in the addresses of all links.
+#[repr(C)]
+#[derive(Debug, Clone, Copy)]
+pub(crate) struct RawLink {
+    pub(crate) start: usize,
+    pub(crate) end: usize,
+    pub(crate) address_end: usize,
+}
+
 /// An edit by the number of its kind, its positions or its index, and its pattern.
 #[repr(C)]
 struct RawEdit {
@@ -259,6 +268,44 @@ extern "C" {
         b: Room,
         m: usize,
     ) -> Answer;
+    fn ansi_str_raw_replace(
+        t: Bytes,
+        n: usize,
+        start: usize,
+        end: usize,
+        with: Bytes,
+        with_len: usize,
+        b: Room,
+        m: usize,
+    ) -> Answer;
+    fn ansi_str_raw_insert(
+        t: Bytes,
+        n: usize,
+        position: usize,
+        with: Bytes,
+        with_len: usize,
+        b: Room,
+        m: usize,
+    ) -> Answer;
+    fn ansi_str_raw_link(
+        t: Bytes,
+        n: usize,
+        start: usize,
+        end: usize,
+        address: Bytes,
+        address_len: usize,
+        b: Room,
+        m: usize,
+    ) -> Answer;
+    fn ansi_str_raw_unlink(t: Bytes, n: usize, b: Room, m: usize) -> Answer;
+    fn ansi_str_raw_links(
+        t: Bytes,
+        n: usize,
+        b: Room,
+        m: usize,
+        links: *mut RawLink,
+        most: usize,
+    ) -> Answers;
     fn ansi_str_raw_starts_with_unchecked(t: Bytes, n: usize, p: Bytes, k: usize) -> Answer;
     fn ansi_str_raw_ends_with_unchecked(t: Bytes, n: usize, p: Bytes, k: usize) -> Answer;
     fn ansi_str_raw_is_char_boundary_unchecked(t: Bytes, n: usize, index: usize) -> Answer;
@@ -639,6 +686,72 @@ pub(crate) fn remove(text: &str, start: usize, end: usize) -> Option<String> {
         unsafe { ansi_str_raw_remove(text.as_ptr(), text.len(), start, end, b, m) }
     })
     .ok()
+}
+
+/// The text with another text in place of a range, or `None` if that is refused.
+pub(crate) fn replace(text: &str, start: usize, end: usize, with: &str) -> Option<String> {
+    let (t, n, w, k) = (text.as_ptr(), text.len(), with.as_ptr(), with.len());
+    written(n + k + LONGEST_START_AND_CLOSE, |b, m| {
+        // SAFETY: two `str`s, and the room; any numbers may be a range
+        unsafe { ansi_str_raw_replace(t, n, start, end, w, k, b, m) }
+    })
+    .ok()
+}
+
+/// The text with another text put in, or `None` if the position is refused.
+pub(crate) fn insert(text: &str, position: usize, with: &str) -> Option<String> {
+    let (t, n, w, k) = (text.as_ptr(), text.len(), with.as_ptr(), with.len());
+    written(n + k + LONGEST_START_AND_CLOSE, |b, m| {
+        // SAFETY: two `str`s, and the room; any number may be a position
+        unsafe { ansi_str_raw_insert(t, n, position, w, k, b, m) }
+    })
+    .ok()
+}
+
+/// The text with a range linked, or `None` if the range or the address is refused.
+pub(crate) fn link(text: &str, start: usize, end: usize, address: &str) -> Option<String> {
+    let (t, n, a, k) = (text.as_ptr(), text.len(), address.as_ptr(), address.len());
+    // (21 bytes more, and in a link as many as opened it)
+    written(n + k + 64, |b, m| {
+        // SAFETY: two `str`s, and the room; any numbers may be a range
+        unsafe { ansi_str_raw_link(t, n, start, end, a, k, b, m) }
+    })
+    .ok()
+}
+
+/// The text without its links.
+pub(crate) fn unlink(text: &str) -> String {
+    written(text.len(), |b, m| {
+        // SAFETY: a `str`, and the room
+        unsafe { ansi_str_raw_unlink(text.as_ptr(), text.len(), b, m) }
+    })
+    .unwrap_or_else(|_| unreachable!("the call isn't refused"))
+}
+
+/// The addresses of all links, concatenated, and where each link and its address is.
+pub(crate) fn links(text: &str) -> (String, Vec<RawLink>) {
+    let (t, n) = (text.as_ptr(), text.len());
+    // (most texts have few links)
+    let (mut addresses, mut links) = (Vec::with_capacity(64), Vec::with_capacity(4));
+    loop {
+        let free: &mut [MaybeUninit<RawLink>] = links.spare_capacity_mut();
+        let (entries, most) = (free.as_mut_ptr().cast(), free.len());
+        let room: &mut [MaybeUninit<u8>] = addresses.spare_capacity_mut();
+        let (b, m) = (room.as_mut_ptr().cast(), room.len());
+        // SAFETY: a `str`, and the pointers and the lengths of the spare room of two vectors
+        let answer = unsafe { ansi_str_raw_links(t, n, b, m, entries, most) };
+        if answer.status == TOO_SMALL {
+            addresses.reserve_exact(answer.len);
+            links.reserve_exact(answer.count);
+        } else {
+            // SAFETY: the call has returned `OK`, the one other status for a text that is UTF-8, and set this many of them,
+            // and the bytes of addresses
+            unsafe {
+                links.set_len(answer.count);
+                return (text_of(addresses, answer.len), links);
+            }
+        }
+    }
 }
 
 pub(crate) fn starts_with(text: &str, pat: &str) -> bool {

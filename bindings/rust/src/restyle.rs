@@ -1,4 +1,5 @@
-//! Where a pattern occurs, parts of a text in another style, and a text without a part.
+//! Where a pattern occurs and what is linked, parts of a text in another style or in a link, and a text without a part or with
+//! another text in its place.
 //!
 //! Positions count bytes of the plain text. The library computes the results also for a text without ESC, since std can't.
 
@@ -8,7 +9,7 @@ use std::iter::FusedIterator;
 use std::ops::Range;
 use std::vec;
 
-/// Calls on matches and on ranges of a text, taken as if its sequences weren't there.
+/// Calls on matches, ranges and links of a text, taken as if its sequences weren't there.
 pub trait AnsiRestyle: AnsiStr {
     /// Where each match of a pattern begins and ends in the plain text, in order. Matches don't overlap, and may run across
     /// sequences. An empty pattern matches at each character boundary, one with an ESC nowhere. (std's `match_indices`, on the
@@ -91,7 +92,118 @@ pub trait AnsiRestyle: AnsiStr {
     /// ```
     #[must_use]
     fn ansi_remove(&self, range: Range<usize>) -> Option<Cow<'_, str>>;
+
+    /// The text with another text in place of a range of its plain text. The new text is in the style and the link of the
+    /// character before the range; at the front, of the first one. Its own sequences come on top of that, and what they open
+    /// ends with it. Each character before the range or after it keeps its style and its link. Every sequence of the text stays,
+    /// those in the range behind the new text.
+    ///
+    /// It is `None` if [`ansi_remove`](AnsiRestyle::ansi_remove) refuses the range, and borrowed if the range and the new text
+    /// are empty.
+    ///
+    /// ```
+    /// use ansi_str::restyle::AnsiRestyle;
+    /// let replaced = "\x1b[32mgreen\x1b[39m".ansi_replace(1..3, "\x1b[1mAB").unwrap();
+    /// assert_eq!(replaced, "\x1b[32mg\x1b[1mAB\x1b[22m\x1b[39m\x1b[32men\x1b[39m");
+    /// assert_eq!("one".ansi_replace(2..5, "1"), None);
+    /// ```
+    #[must_use]
+    fn ansi_replace(&self, range: Range<usize>, with: &str) -> Option<Cow<'_, str>>;
+
+    /// The text with another text put in at a position, as [`ansi_replace`](AnsiRestyle::ansi_replace) does it with an empty
+    /// range there. It is `None` if the position is past the end of the plain text or inside a character, and borrowed if the new
+    /// text is empty.
+    ///
+    /// ```
+    /// use ansi_str::restyle::AnsiRestyle;
+    /// let longer = "\x1b[32mgreen\x1b[39m.".ansi_insert(5, "ish").unwrap();
+    /// assert_eq!(longer, "\x1b[32mgreenish\x1b[39m.");
+    /// assert_eq!("one".ansi_insert(4, "s"), None);
+    /// ```
+    #[must_use]
+    fn ansi_insert(&self, position: usize, with: &str) -> Option<Cow<'_, str>>;
+
+    /// The links of the text, in order. A link sequence (OSC 8) with an address opens a link, which goes on up to the next link
+    /// sequence or the end of the text. A link without text is left out.
+    ///
+    /// ```
+    /// use ansi_str::restyle::AnsiRestyle;
+    /// let mut links = "a \x1b]8;;http://x\x1b\\l\x1b[1mink\x1b]8;;\x1b\\".ansi_links();
+    /// let link = links.next().unwrap();
+    /// assert_eq!((link.range, link.address.as_str()), (2..6, "http://x"));
+    /// assert_eq!(links.next(), None);
+    /// ```
+    #[must_use]
+    fn ansi_links(&self) -> AnsiLinks;
+
+    /// The text with a range linked to an address (OSC 8, without parameters). Each character in the range loses another link
+    /// that it had. Every other character keeps its link: one that goes on into the range ends before it, and one that goes on
+    /// after it is opened again there. The plain text, the styles and all other sequences stay.
+    ///
+    /// It is `None` if [`ansi_remove`](AnsiRestyle::ansi_remove) refuses the range, or if the address is empty or has a byte that
+    /// isn't printable ASCII (20 to 7E). It is borrowed if the range is empty.
+    ///
+    /// ```
+    /// use ansi_str::restyle::AnsiRestyle;
+    /// let linked = "see \x1b[1mhere".ansi_link(4..8, "http://x").unwrap();
+    /// assert_eq!(linked, "see \x1b[1m\x1b]8;;http://x\x1b\\here\x1b]8;;\x1b\\");
+    /// assert_eq!("here".ansi_link(0..4, "a\nb"), None);
+    /// ```
+    #[must_use]
+    fn ansi_link(&self, range: Range<usize>, address: &str) -> Option<Cow<'_, str>>;
+
+    /// The text without its links: its link sequences (OSC 8) are left out, and everything else stays. It is borrowed if there is
+    /// none.
+    ///
+    /// ```
+    /// use ansi_str::restyle::AnsiRestyle;
+    /// let bare = "\x1b]8;;http://x\x1b\\a \x1b[1mlink\x1b[0m\x1b]8;;\x1b\\".ansi_unlink();
+    /// assert_eq!(bare, "a \x1b[1mlink\x1b[0m");
+    /// ```
+    #[must_use]
+    fn ansi_unlink(&self) -> Cow<'_, str>;
 }
+
+/// A link of a text; [`AnsiRestyle::ansi_links`] gives it.
+#[derive(Debug, Clone, PartialEq, Eq, Hash)]
+pub struct AnsiLink {
+    /// Where its text begins and ends in the plain text.
+    pub range: Range<usize>,
+    /// Its address, which isn't empty.
+    pub address: String,
+}
+
+/// An iterator over links; [`AnsiRestyle::ansi_links`] returns it. That call finds all links, so the iterator doesn't borrow the
+/// text.
+#[derive(Debug, Clone)]
+pub struct AnsiLinks {
+    /// The addresses of all links, concatenated.
+    addresses: String,
+    /// Where the next one begins.
+    start: usize,
+    links: vec::IntoIter<calls::RawLink>,
+}
+
+impl Iterator for AnsiLinks {
+    type Item = AnsiLink;
+
+    fn next(&mut self) -> Option<AnsiLink> {
+        let link = self.links.next()?;
+        let address = self.addresses[self.start..link.address_end].to_owned();
+        self.start = link.address_end;
+        Some(AnsiLink {
+            range: link.start..link.end,
+            address,
+        })
+    }
+
+    fn size_hint(&self) -> (usize, Option<usize>) {
+        self.links.size_hint()
+    }
+}
+
+impl ExactSizeIterator for AnsiLinks {}
+impl FusedIterator for AnsiLinks {}
 
 /// An iterator over where a pattern occurs; [`AnsiRestyle::ansi_matches`] returns it. That call finds all matches, so the iterator
 /// doesn't borrow the text.
@@ -140,6 +252,41 @@ impl<T: AsRef<str> + ?Sized> AnsiRestyle for T {
         let text = self.as_ref();
         let shorter = calls::remove(text, range.start, range.end)?;
         Some(borrowed_if(range.start == range.end, text, shorter))
+    }
+
+    fn ansi_replace(&self, range: Range<usize>, with: &str) -> Option<Cow<'_, str>> {
+        let text = self.as_ref();
+        let replaced = calls::replace(text, range.start, range.end, with)?;
+        let is_same = range.start == range.end && with.is_empty();
+        Some(borrowed_if(is_same, text, replaced))
+    }
+
+    fn ansi_insert(&self, position: usize, with: &str) -> Option<Cow<'_, str>> {
+        let text = self.as_ref();
+        let longer = calls::insert(text, position, with)?;
+        Some(borrowed_if(with.is_empty(), text, longer))
+    }
+
+    fn ansi_links(&self) -> AnsiLinks {
+        let (addresses, links) = calls::links(self.as_ref());
+        AnsiLinks {
+            addresses,
+            start: 0,
+            links: links.into_iter(),
+        }
+    }
+
+    fn ansi_link(&self, range: Range<usize>, address: &str) -> Option<Cow<'_, str>> {
+        let text = self.as_ref();
+        let linked = calls::link(text, range.start, range.end, address)?;
+        Some(borrowed_if(range.start == range.end, text, linked))
+    }
+
+    fn ansi_unlink(&self) -> Cow<'_, str> {
+        let text = self.as_ref();
+        let bare = calls::unlink(text);
+        // (a link sequence that is left out makes a text shorter)
+        borrowed_if(bare.len() == text.len(), text, bare)
     }
 }
 

@@ -1,7 +1,7 @@
 //! Passes the rows of texts and results, which `rows/README.md` describes.
 
 use ansi_str::columns::{Alignment, AnsiColumns, Side, Truncation, Wrap};
-use ansi_str::restyle::AnsiRestyle;
+use ansi_str::restyle::{AnsiLink, AnsiRestyle};
 use ansi_str::safe::{sanitize_bytes, AnsiSafe, Links, Policy, Rest};
 use ansi_str::{edit, get_blocks, is_whole, part, AnsiBlock, AnsiStr, Color, Edit};
 use std::borrow::Cow;
@@ -275,6 +275,17 @@ fn pass(call: &str, status: &str, want: &str, text: &str, more: &[String]) -> Op
         }
         "mark" => is(text.ansi_mark(&more[0], &more[1])),
         "remove" => is(text.ansi_remove(position(0)..position(1))),
+        "replace" => is(text.ansi_replace(position(0)..position(1), &more[2])),
+        "insert" => is(text.ansi_insert(position(0), &more[1])),
+        "link" => is(text.ansi_link(position(0)..position(1), &more[2])),
+        "unlink" => is(Some(text.ansi_unlink())),
+        "links" => {
+            let links = text.ansi_links();
+            let is_row = |(link, row): (AnsiLink, &[String])| {
+                link.range == range_of(&row[0]) && link.address == row[1]
+            };
+            is_number(links.len()) && links.zip(more.chunks(2)).all(is_row)
+        }
         "sanitize" => {
             let (rest, links) = (rest_of(&more[0]), links_of(&more[1]));
             is(Some(text.ansi_sanitize(Policy { rest, links })))
@@ -359,10 +370,23 @@ fn what_no_range_changes_is_a_borrow() {
         assert!(matches!(text.ansi_mark("a", ""), Some(Cow::Owned(_))));
         assert!(matches!(text.ansi_remove(3..3), Some(Cow::Borrowed(_))));
         assert!(matches!(text.ansi_remove(0..1), Some(Cow::Owned(_))));
+        assert!(matches!(
+            text.ansi_replace(3..3, ""),
+            Some(Cow::Borrowed(_))
+        ));
+        assert!(matches!(text.ansi_replace(0..1, "a"), Some(Cow::Owned(_))));
+        assert!(matches!(text.ansi_insert(3, ""), Some(Cow::Borrowed(_))));
+        assert!(matches!(text.ansi_insert(3, "d"), Some(Cow::Owned(_))));
+        assert!(matches!(text.ansi_link(3..3, "u"), Some(Cow::Borrowed(_))));
+        assert!(matches!(text.ansi_link(0..3, "u"), Some(Cow::Owned(_))));
+        assert!(matches!(text.ansi_unlink(), Cow::Borrowed(_)));
         assert_eq!(text.ansi_matches("").len(), 4);
     }
     let many = "\x1b[1mab".repeat(1000);
     assert_eq!(many.ansi_matches("ab").nth(999), Some(1998..2000));
+    let many = "\x1b]8;;http://x\x1b\\a".repeat(1000);
+    let last = many.ansi_links().nth(999).expect("a thousand links");
+    assert_eq!((last.range, &*last.address), (999..1000, "http://x"));
 }
 
 #[test]

@@ -105,9 +105,10 @@ impl<'r> Call<'r> {
             "is_char_boundary" => Call::IsCharBoundary(row.number(0)?),
             "floor_char_boundary" => Call::FloorCharBoundary(row.number(0)?),
             "sanitize" | "is_safe" => Call::Safe(SafeCall::new(row)?),
-            "matches" | "find_from" | "restyle" | "mark" | "remove" => {
+            "matches" | "find_from" | "restyle" | "mark" | "remove" | "replace" | "insert" => {
                 Call::Restyles(RestyleCall::new(row)?)
             }
+            "link" | "unlink" | "links" => Call::Restyles(RestyleCall::new(row)?),
             _ => Call::Columns(ColumnCall::new(row)?),
         })
     }

@@ -1,9 +1,11 @@
-//! The results of calls on matches and on ranges.
+//! The results of calls on matches, on ranges and on links.
 use crate::check::Check;
 use crate::rows::Row;
 use ansi_restyle::AnsiRestyle;
+use ansi_restyle::links::{Links, link_in, unlink_in};
 use ansi_restyle::matches::Matches;
 use ansi_restyle::remove::remove_in;
+use ansi_restyle::replace::{insert_in, replace_in};
 use ansi_restyle::restyle::{mark_in, restyle_in};
 use ansi_str::AnsiStr;
 use refusing::Refusing;
@@ -17,6 +19,11 @@ pub enum RestyleCall<'r> {
     Restyle(&'r str),
     Mark(&'r str, &'r str),
     Remove(usize, usize),
+    Replace(usize, usize, &'r str),
+    Insert(usize, &'r str),
+    Link(usize, usize, &'r str),
+    Unlink,
+    Links,
 }
 
 impl<'r> RestyleCall<'r> {
@@ -27,6 +34,11 @@ impl<'r> RestyleCall<'r> {
             "restyle" => RestyleCall::Restyle(row.argument(0)?),
             "mark" => RestyleCall::Mark(row.argument(0)?, row.argument(1)?),
             "remove" => RestyleCall::Remove(row.number(0)?, row.number(1)?),
+            "replace" => { RestyleCall::Replace(row.number(0)?, row.number(1)?, row.argument(2)?) }
+            "insert" => RestyleCall::Insert(row.number(0)?, row.argument(1)?),
+            "link" => RestyleCall::Link(row.number(0)?, row.number(1)?, row.argument(2)?),
+            "unlink" => RestyleCall::Unlink,
+            "links" => RestyleCall::Links,
             _ => return None,
         })
     }
@@ -53,6 +65,13 @@ fn check_matches(check: &mut Check<'_>, matches: Matches<'_, '_>) {
     }
 }
 
+fn check_links(check: &mut Check<'_>, links: Links<'_>) {
+    for link in links {
+        check.interval(Some(link.range));
+        check.text(link.address);
+    }
+}
+
 /// Checks what a call of `AnsiRestyle` returns.
 pub fn make_restyle_call<T: AnsiStr>(check: &mut Check<'_>, text: &T, call: RestyleCall<'_>) {
     let alloc = check.alloc;
@@ -73,6 +92,17 @@ pub fn make_restyle_call<T: AnsiStr>(check: &mut Check<'_>, text: &T, call: Rest
         RestyleCall::Remove(start, end) => {
             check.option_or_err(text.ansi_remove(alloc, (start, end)), "2");
         }
+        RestyleCall::Replace(start, end, with) => {
+            check.option_or_err(text.ansi_replace(alloc, (start, end), with), "2");
+        }
+        RestyleCall::Insert(position, with) => {
+            check.option_or_err(text.ansi_insert(alloc, position, with), "2");
+        }
+        RestyleCall::Link(start, end, address) => {
+            check.option_or_err(text.ansi_link(alloc, (start, end), address), "2");
+        }
+        RestyleCall::Unlink => check.text_or_err(text.ansi_unlink(alloc)),
+        RestyleCall::Links => check_links(check, text.ansi_links()),
     }
 }
 
@@ -93,6 +123,16 @@ pub fn make_restyle_call_in(check: &mut Check<'_>, heap: &Refusing<Global>, call
         RestyleCall::Remove(start, end) => {
             check.option_or_err(remove_in(heap, text, (start, end)), "2");
         }
+        RestyleCall::Replace(start, end, with) => {
+            check.option_or_err(replace_in(heap, text, (start, end), with), "2");
+        }
+        RestyleCall::Insert(position, with) => {
+            check.option_or_err(insert_in(heap, text, position, with), "2");
+        }
+        RestyleCall::Link(start, end, address) => {
+            check.option_or_err(link_in(heap, text, (start, end), address), "2");
+        }
+        RestyleCall::Unlink => check.text_or_err(unlink_in(heap, text)),
         _ => make_restyle_call(check, &text, call),
     }
 }
