@@ -1,7 +1,7 @@
 // Text with ANSI control sequences, taken as if the sequences weren't there. index.d.ts says what each call does.
 import {
-  ATTRIBUTES, COLORS, END as BYTES_OF_END, RANGE, blocks as blocksOf, bytesOf, called, iterBlocks as blockWalk, iterLines as lineWalk, iterParts,
-  listed, noRoom, ranged, rangesAsBytes, roomForColumns, roomForEntries, roomForList, roomForOne, told, written,
+  ATTRIBUTES, COLORS, END as BYTES_OF_END, LINK, RANGE, blocks as blocksOf, bytesOf, called, iterBlocks as blockWalk, iterLines as lineWalk,
+  iterParts, linked, listed, noRoom, ranged, rangesAsBytes, roomForColumns, roomForEntries, roomForList, roomForOne, told, written,
 } from './memory.js';
 
 export { OutOfMemoryError } from './memory.js';
@@ -58,6 +58,32 @@ const raw = {
   remove(text, start, end) {
     return called([text], [], roomForOne,
       (exports, frame) => exports.ansi_str_raw_remove(...frame.head, ...frame.texts[0], BigInt(start), BigInt(end), ...frame.out), written);
+  },
+
+  /** The text with another text in place of a range in bytes, or null if that is refused. */
+  replace(text, start, end, replacement) {
+    return called([text, replacement], [], roomForOne, (exports, frame) => exports.ansi_str_raw_replace(
+      ...frame.head, ...frame.texts[0], BigInt(start), BigInt(end), ...frame.texts[1], ...frame.out), written);
+  },
+
+  insert(text, position, added) {
+    return called([text, added], [], roomForOne,
+      (exports, frame) => exports.ansi_str_raw_insert(...frame.head, ...frame.texts[0], BigInt(position), ...frame.texts[1], ...frame.out), written);
+  },
+
+  link(text, start, end, address) {
+    return called([text, address], [], roomForOne, (exports, frame) => exports.ansi_str_raw_link(
+      ...frame.head, ...frame.texts[0], BigInt(start), BigInt(end), ...frame.texts[1], ...frame.out), written);
+  },
+
+  unlink(text) {
+    return called([text], [], roomForOne, (exports, frame) => exports.ansi_str_raw_unlink(...frame.head, ...frame.texts[0], ...frame.out), written);
+  },
+
+  /** The links, whose ranges are in bytes. */
+  links(text) {
+    return called([text], [], roomForList(text, LINK),
+      (exports, frame) => exports.ansi_str_raw_links(frame.head[0], ...frame.texts[0], ...frame.out, ...frame.list), linked);
   },
 
   startsWith: (text, pattern) => isSo('ansi_str_raw_starts_with', text, pattern),
@@ -466,16 +492,58 @@ export function restyle(text, ranges, style) {
   return restyled;
 }
 
-export function remove(text, start, end) {
+/** What is made of a text and a range in bytes; it is refused only for the range. */
+function madeInRange(text, start, end, make) {
   textOf('text', text);
   const [first, last] = [numberOf('start', start), numberOf('end', end)];
   const plain = isAscii(text) ? null : raw.strip(text);
   const places = plain === null ? [first, last] : [first, last].map((position) => placeIn(plain, position));
-  const removed = raw.remove(text, ...places);
-  if (removed === null) {
+  const made = make(...places);
+  if (made === null) {
     checkRange(strip(text), first, last);
   }
-  return removed;
+  return made;
+}
+
+export function remove(text, start, end) {
+  return madeInRange(text, start, end, (first, last) => raw.remove(text, first, last));
+}
+
+export function replace(text, start, end, replacement) {
+  textOf('replacement', replacement);
+  return madeInRange(text, start, end, (first, last) => raw.replace(text, first, last, replacement));
+}
+
+export function insert(text, position, added) {
+  textOf('text', text);
+  const at = numberOf('position', position);
+  textOf('added text', added);
+  const longer = raw.insert(text, isAscii(text) ? at : placeIn(raw.strip(text), at), added);
+  if (longer === null) {
+    const plain = strip(text);
+    throw new RangeError(at > plain.length ? `the position, ${at}, is past the end of the plain text, ${plain.length}` : refusal(plain, at, at));
+  }
+  return longer;
+}
+
+export function link(text, start, end, address) {
+  if (!/^[ -~]+$/.test(textOf('address', address))) {
+    throw new RangeError(`the address must be printable ASCII, and not empty: ${address}`);
+  }
+  return madeInRange(text, start, end, (first, last) => raw.link(text, first, last, address));
+}
+
+export function unlink(text) {
+  return textOf('text', text).includes('\x1b') ? raw.unlink(text) : text;
+}
+
+export function links(text) {
+  const found = raw.links(textOf('text', text));
+  if (isAscii(text)) {
+    return found;
+  }
+  const inUnits = unitsIn(raw.strip(text));
+  return found.map(({ start, end, address }) => ({ start: inUnits(start), end: inUnits(end), address }));
 }
 
 export function split(text, pattern) {

@@ -93,6 +93,44 @@ export function restyle(text: string, ranges: Iterable<[number, number]>, style:
  */
 export function remove(text: string, start: number, end: number): string;
 
+/**
+ * The text with another text in place of what its plain text has from `start` to `end`. The replacement is in the style and the link of the
+ * character before `start`; at the front, of the first one. Its own sequences come on top of that, and what they open ends with it. Each
+ * character before the range or after it keeps its style and its link. Every sequence of the text stays, those in the range behind the
+ * replacement. Throws as `remove` does.
+ */
+export function replace(text: string, start: number, end: number, replacement: string): string;
+
+/**
+ * The text with another text put in at a position, as `replace` does it with an empty range there. Throws a RangeError if the position is past
+ * the end of the plain text, or between the surrogates of a character.
+ */
+export function insert(text: string, position: number, added: string): string;
+
+/**
+ * The text with what its plain text has from `start` to `end` linked to an address (OSC 8). Each character there loses another link that it had.
+ * Every other character keeps its link: one that goes on into the range ends before it, and one that goes on after it is opened again there. The
+ * plain text, the styles and all other sequences stay. Throws as `remove` does, and a RangeError if the address is empty or has anything but
+ * printable ASCII.
+ */
+export function link(text: string, start: number, end: number, address: string): string;
+
+/** The text without its links: its OSC 8 sequences are left out, and everything else stays. */
+export function unlink(text: string): string;
+
+/** A link: where its text begins and ends in the plain text, and its address. */
+export interface Link {
+  start: number;
+  end: number;
+  address: string;
+}
+
+/**
+ * The links of the text, in order. An OSC 8 sequence with an address opens a link, which goes on up to the next OSC 8 sequence or the end of the
+ * text. A link without text is left out.
+ */
+export function links(text: string): Link[];
+
 /** The parts of the text between the matches of the pattern, each in its styles. */
 export function split(text: string, pattern: string): string[];
 

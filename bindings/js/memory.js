@@ -29,6 +29,7 @@ const STEP = 40;
 const ENTRY = 48;
 export const END = 8;
 export const RANGE = 16;
+export const LINK = 24;
 /** The largest state of a walk, and the largest item. */
 const WALK = 80;
 const ITEM = 48;
@@ -329,6 +330,19 @@ export function listed(frame) {
     const text = each(start, end);
     start = end;
     return text;
+  });
+}
+
+/** Links, each with where its range begins and ends, and its address. */
+export function linked(frame) {
+  let begin = 0;
+  const each = frame.each;
+  return Array.from({ length: told(frame) }, (_, index) => {
+    const at = frame.entries + index * LINK;
+    const [start, end, addressEnd] = [frame.word(at), frame.word(at + 8), frame.word(at + 16)];
+    const address = each(begin, addressEnd);
+    begin = addressEnd;
+    return { start, end, address };
   });
 }
 

@@ -3,7 +3,8 @@
 /** The calls that aren't here. The positions of an edit count the bytes of what the edit before it made. */
 const LACKING = ['is_char_boundary', 'part_interval', 'edit', 'block_order', 'items'];
 /** How many arguments of a call are positions. */
-const POSITIONS = { cut: 2, left: 1, right: 1, split_at: 1, floor_char_boundary: 1, link_at: 1, column_of: 1, find_from: 1, remove: 2 };
+const POSITIONS = { cut: 2, left: 1, right: 1, split_at: 1, floor_char_boundary: 1, link_at: 1, column_of: 1, find_from: 1, remove: 2,
+  replace: 2, insert: 1, link: 2 };
 
 async function read(url) {
   if (url.protocol === 'file:') {
@@ -85,6 +86,18 @@ function answersOf(ansi, call, found, want, text, more) {
       return [[orNull(() => ansi.mark(text, first, second)), found]];
     case 'remove':
       return [[orNull(() => ansi.remove(text, first, second)), found]];
+    case 'replace':
+      return [[orNull(() => ansi.replace(text, first, second, more[2])), found]];
+    case 'insert':
+      return [[orNull(() => ansi.insert(text, first, second)), found]];
+    case 'link':
+      return [[orNull(() => ansi.link(text, first, second, more[2])), found]];
+    case 'unlink':
+      return [[ansi.unlink(text), want]];
+    case 'links': {
+      const ranges = rangesOf(text, more.filter((_, index) => index % 2 === 0), ansi);
+      return [[ansi.links(text), ranges.map(([start, end], index) => ({ start, end, address: more[2 * index + 1] }))]];
+    }
     case 'cut':
       return [[ansi.edit(text, [['cut', first, second]]), found]];
     case 'left':

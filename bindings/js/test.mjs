@@ -10,7 +10,7 @@ import { setFlagsFromString } from 'node:v8';
 import { runInNewContext } from 'node:vm';
 import {
   OutOfMemoryError, blocks, columnOf, cut, edit, endsWith, expandTabs, find, findFrom, fit, fitting, floorCharBoundary, hasAny, isSafe, isWhole, iterBlocks, iterLines, iterSplit, lines, linkAt,
-  mark, matches, pad, part, remove, restyle, sanitize, sliceColumns, split, splitAt, startsWith, strip, stripPrefix, stripSuffix, trim, truncate, width, wrap,
+  insert, link, links, mark, matches, pad, part, remove, replace, restyle, sanitize, sliceColumns, split, splitAt, startsWith, strip, stripPrefix, stripSuffix, trim, truncate, unlink, width, wrap,
 } from './index.js';
 import * as ansiStr from './index.js';
 import { called, written } from './memory.js';
@@ -117,6 +117,39 @@ test('ranges count UTF-16 units, and a bad one is refused', () => {
     assert.throws(() => restyle('a😀'.slice(1), [range], '1'), refused('the position 1 is inside a character'));
     assert.throws(() => remove('\x1b[1m😀', ...range), refused('the position 1 is inside a character'));
   }
+});
+
+test('a replacement, an added text and a link count UTF-16 units, and a bad range is refused', () => {
+  const refused = (message) => ({ name: 'RangeError', message });
+  assert.equal(replace('😀a\x1b[1m😀', 2, 3, '\x1b[3mé'), '😀\x1b[3mé\x1b[23m\x1b[1m😀');
+  assert.equal(insert('\x1b[1m😀a', 2, 'é'), '\x1b[1m😀éa');
+  assert.equal(link('😀a', 0, 2, 'u'), '\x1b]8;;u\x1b\\😀\x1b]8;;\x1b\\a');
+  assert.deepEqual(links('😀\x1b]8;;é\x1b\\a😀\x1b]8;;v\x1b\\b'), [{ start: 2, end: 5, address: 'é' }, { start: 5, end: 6, address: 'v' }]);
+  assert.equal(links('\x1b]8;;u\x07a'.repeat(1000)).length, 1000);
+  assert.equal(unlink('é\x1b]8;;u\x07a'), 'éa');
+  for (const plain of ['abc', '😀c']) {
+    const text = `\x1b[3m${plain}`;
+    for (const end of [4, 2 ** 32, Number.MAX_SAFE_INTEGER]) {
+      assert.throws(() => replace(text, 0, end, 'x'), refused(`the end, ${end}, is past the end of the plain text, 3`));
+      assert.throws(() => link(text, 0, end, 'x'), refused(`the end, ${end}, is past the end of the plain text, 3`));
+      assert.throws(() => insert(text, end, 'x'), refused(`the position, ${end}, is past the end of the plain text, 3`));
+    }
+    assert.throws(() => replace(text, 2, 1, 'x'), refused('the end, 1, is before the start, 2'));
+    assert.throws(() => link(text, 2, 1, 'x'), refused('the end, 1, is before the start, 2'));
+    assert.throws(() => insert(text, -1, 'x'), refused('the position is below 0: -1'));
+    for (const address of ['', 'a\nb', '\x1b\\', '\x7f', 'é']) {
+      assert.throws(() => link(text, 0, 3, address), refused(`the address must be printable ASCII, and not empty: ${address}`));
+    }
+    assert.throws(() => replace(text, 0, 0), /must be a string/);
+    assert.throws(() => insert(text, 0, '\ud800'), /lone surrogate/);
+    assert.throws(() => link(text, 0, 1, null), /must be a string/);
+    assert.throws(() => links(null), /must be a string/);
+  }
+  for (const range of [[0, 1], [1, 2], [1, 1]]) {
+    assert.throws(() => replace('\x1b[1m😀', ...range, 'x'), refused('the position 1 is inside a character'));
+    assert.throws(() => link('\x1b[1m😀', ...range, 'x'), refused('the position 1 is inside a character'));
+  }
+  assert.throws(() => insert('\x1b[1m😀', 1, 'x'), refused('the position 1 is inside a character'));
 });
 
 test('a style is codes or names', () => {

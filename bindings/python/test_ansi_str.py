@@ -25,7 +25,8 @@ LACKING = [
     "is_char_boundary", "floor_char_boundary", "part_interval", "edit", "block_order", "items",
 ]
 # how many arguments of a call are positions
-POSITIONS = {"cut": 2, "left": 1, "right": 1, "split_at": 1, "link_at": 1, "column_of": 1, "find_from": 1, "remove": 2}
+POSITIONS = {"cut": 2, "left": 1, "right": 1, "split_at": 1, "link_at": 1, "column_of": 1, "find_from": 1, "remove": 2,
+             "replace": 2, "insert": 1, "link": 2}
 
 
 def block_at(text, index, of):
@@ -92,6 +93,11 @@ MADE = {
     "restyle": lambda text, style, *ranges: [or_none(ansi_str.restyle, text, ranges, style), or_none(ansi_str.restyle, text, iter(ranges), style)],
     "mark": lambda text, pattern, style: [or_none(ansi_str.mark, text, pattern, style)],
     "remove": lambda text, start, end: [or_none(ansi_str.remove, text, start, end)],
+    "replace": lambda text, start, end, new: [or_none(ansi_str.replace, text, start, end, new)],
+    "insert": lambda text, position, new: [or_none(ansi_str.insert, text, position, new)],
+    "link": lambda text, start, end, address: [or_none(ansi_str.link, text, start, end, address)],
+    "unlink": lambda text: [ansi_str.unlink(text)],
+    "links": lambda text, *_: [[(link.start, link.end, link.address) for link in ansi_str.links(text)]],
     "is_safe": lambda text, links: [ansi_str.is_safe(text, links=links == "Keep")],
 }
 
@@ -139,6 +145,10 @@ def said(call, status, want, text, more):
     if call in ("lines", "matches"):
         plain = ansi_str.strip(text)
         return [tuple(in_characters(plain, int(position)) for position in line.split(",")) for line in more[1:]]
+    if call == "links":
+        plain = ansi_str.strip(text)
+        ranges = [map(int, each.split(",")) for each in more[::2]]
+        return [(*(in_characters(plain, position) for position in each), address) for each, address in zip(ranges, more[1::2])]
     if call == "blocks":
         return [(text, has == "1") for text, has in zip(more[::5], more[4::5])]
     if call == "styled_blocks":
@@ -192,7 +202,8 @@ CALLS = {"strip": [], "cut": [0], "left": [0], "right": [0], "part": [",", 0], "
          "trim": [], "width": [], "fitting": [1], "column_of": [0], "truncate": [1], "pad": [1], "fit": [1], "slice_columns": [0],
          "expand_tabs": [8], "wrap": [1], "lines": [1], "iter_lines": [1], "find": [""], "starts_with": [""], "ends_with": [""], "has_any": [], "is_whole": [], "split": [","],
          "iter_split": [","], "blocks": [], "iter_blocks": [], "edit": [[]], "sanitize": [], "is_safe": [], "link_at": [0],
-         "matches": ["a"], "find_from": [0, "a"], "restyle": [[(0, 0)], "1"], "mark": ["a", "1"], "remove": [0, 0]}
+         "matches": ["a"], "find_from": [0, "a"], "restyle": [[(0, 0)], "1"], "mark": ["a", "1"], "remove": [0, 0],
+         "replace": [0, 0, "b"], "insert": [0, "b"], "link": [0, 0, "b"], "unlink": [], "links": []}
 PATTERNED = ["matches", "mark", "part", "strip_prefix", "strip_suffix", "find", "starts_with", "ends_with", "split", "iter_split"]
 HUGE = [2**31, 2**63 - 1, 2**63, 2**64 - 1, 2**64, 2**64 + 1, 2**200]
 
@@ -246,7 +257,8 @@ class Arguments(unittest.TestCase):
                 self.refused(kind, "index " + words, ansi_str.part, text, ",", wrong)
                 for call in (ansi_str.link_at, ansi_str.column_of, lambda text, position: ansi_str.find_from(text, position, "a")):
                     self.refused(kind, "position " + words, call, text, wrong)
-                for call in (ansi_str.remove, lambda *ends: ansi_str.restyle(text, [ends[1:]], "1")):
+                for call in (ansi_str.remove, lambda *ends: ansi_str.restyle(text, [ends[1:]], "1"),
+                             lambda *ends: ansi_str.replace(*ends, "b"), lambda *ends: ansi_str.link(*ends, "b")):
                     self.refused(kind, "start " + words, call, text, wrong, 1)
                     self.refused(kind, "end " + words, call, text, 0, wrong)
                 for call in (ansi_str.fitting, ansi_str.truncate, ansi_str.pad, ansi_str.fit, ansi_str.wrap, ansi_str.lines):
@@ -291,6 +303,26 @@ class Arguments(unittest.TestCase):
         self.assertEqual(ansi_str.find_from("\xe9b\x1b[1m\xe9", 1, "\xe9"), 2)
         self.assertEqual(ansi_str.remove("\xe9b\x1b[1m\xe9", 1, 2), "\xe9\x1b[1m\xe9")
         self.assertEqual(len(ansi_str.matches("\xe9" * 1000, "")), 1001)
+
+    def test_a_new_text_or_an_address_that_is_none(self):
+        for text in ("abc", "\x1b[1m\xe9b\xe7"):
+            for call in (ansi_str.replace, ansi_str.link):
+                for huge in [4, *HUGE]:
+                    self.refused(ValueError, "no range of the plain text: 0 up to %d" % huge, call, text, 0, huge, "b")
+                    self.refused(ValueError, "no range of the plain text: %d up to 0" % huge, call, text, huge, 0, "b")
+            for huge in [4, *HUGE]:
+                self.refused(ValueError, "the position lies past the end of the plain text: %d" % huge, ansi_str.insert, text, huge, "b")
+            for wrong in ("", "a\nb", "\x1b\\", "\x7f", "\xe9"):
+                self.refused(ValueError, "address must be printable ASCII, and not empty, not " + repr(wrong), ansi_str.link, text, 0, 1, wrong)
+            for call, name in ((lambda new: ansi_str.replace(text, 0, 0, new), "new"), (lambda new: ansi_str.insert(text, 0, new), "new"),
+                               (lambda address: ansi_str.link(text, 0, 1, address), "address")):
+                self.refused(TypeError, name + " must be a str, not int", call, 1)
+                self.refused(UnicodeEncodeError, name + " has a lone surrogate", call, "\ud800")
+        self.assertEqual(ansi_str.replace("\xe9b\x1b[1m\xe9", 1, 2, "\xe7"), "\xe9\xe7\x1b[1m\xe9")
+        self.assertEqual(ansi_str.insert("\xe9\x1b[1m\xe9", 1, "\xe7"), "\xe9\xe7\x1b[1m\xe9")
+        self.assertEqual(ansi_str.link("\xe9b\xe7", 1, 2, "u"), "\xe9\x1b]8;;u\x1b\\b\x1b]8;;\x1b\\\xe7")
+        self.assertEqual(ansi_str.links("\xe9\x1b]8;;u\x1b\\\xe9\x1b]8;;v\x1b\\b"), [(1, 2, "u"), (2, 3, "v")])
+        self.assertEqual(len(ansi_str.links("\x1b]8;;%s\x07\xe9" % ("u" * 100) * 1000)), 1000)
 
     def test_codes(self):
         for code, name in zip((1, 2, 3, 4, 21, 5, 6, 7, 8, 9, 51, 52, 20, 26, 53, 60, 61, 62, 63, 64, 73, 74), ansi_str.ATTRIBUTES):
@@ -476,7 +508,7 @@ class Private(unittest.TestCase):
     WRONG = {
         "bytes": [(b"\xff", ValueError)] + [(wrong, TypeError) for wrong in TYPES + [1, ()]],
         "number": [(-1, ValueError), (-2**64, ValueError)] + [(wrong, TypeError) for wrong in TYPES + [b"a", ()]],
-        "kind": [(-1, ValueError), (16, ValueError), (2**31 - 1, ValueError), (2**31, OverflowError), (-2**200, OverflowError)]
+        "kind": [(-1, ValueError), (19, ValueError), (2**31 - 1, ValueError), (2**31, OverflowError), (-2**200, OverflowError)]
                 + [(wrong, TypeError) for wrong in TYPES + [b"a", ()]],
         "steps": [(wrong, TypeError) for wrong in TYPES + [b"a", 1, (1,), ((),), ((0, 0, 0),), ((0, 0, 0, b"", 0),), ([0, 0, 0, b""],)]],
         "ranges": [(wrong, TypeError) for wrong in TYPES + [b"a", 1, (1,), ((),), ((0,),), ((0, 1, 2),), ([0, 1],), ((None, 1),), ((0, "a"),)]]
@@ -494,6 +526,7 @@ class Private(unittest.TestCase):
         "mark": [("bytes", b"a"), ("bytes", b"a"), ("bytes", b"1")],
         "restyle": [("bytes", b"a"), ("bool", True), ("ranges", ((0, 1),)), ("bytes", b"1")],
         "matches": [("bytes", b"a"), ("bool", True), ("bytes", b"a")],
+        "links": [("bytes", b"a"), ("bool", True)],
     }
 
     def refused(self, call, given):
@@ -511,10 +544,10 @@ class Private(unittest.TestCase):
         for name, given in self.GOOD.items():
             self.refused(getattr(ansi_str._library, name), given)
         edit = ansi_str._library.edit
-        for kind in range(16):
+        for kind in range(19):
             self.refused(lambda *step: edit(b"a", True, (step + (b"",),)), [("kind", kind), ("number", 0), ("number", 1)])
-        # (the last seven kinds don't read their pattern)
-        for kind in range(9):
+        # (the others don't read their pattern)
+        for kind in (*range(9), 15, 16):
             self.refused(lambda pattern: edit(b"a", True, ((kind, 0, 1, pattern),)), [("bytes", b"")])
 
     def test_wrong_counts(self):

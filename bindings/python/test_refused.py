@@ -9,11 +9,12 @@ from ansi_str import _library
 
 ALLOCATOR = ctypes.CDLL(None)
 ALLOCATOR.held.restype = ctypes.c_long
-TEXTS = ["", "red, fox", "\x1b[1;31mred\x1b]0;t\x07, \x1b[4m\tfox\x1b[0m", "\x1b[1mr\u00e9d\x1b[0m, \u65e5\x1b[31m", "\x1b[1m,\x1b[3ma" * 40]
-CUT, LEFT, RIGHT, PART, PREFIX, SUFFIX, TRIM, TRUNCATE, FIT, PAD, SANITIZE, LINK_AT, SLICE, EXPAND_TABS, REMOVE = range(15)
+TEXTS = ["", "red, fox", "\x1b[1;31mred\x1b]0;t\x07, \x1b[4m\tfox\x1b[0m", "\x1b[1mr\u00e9d\x1b[0m, \u65e5\x1b[31m", "\x1b[1m,\x1b[3ma" * 40,
+         "\x1b]8;;u\x07r\u00e9d" * 20]
+CUT, LEFT, RIGHT, PART, PREFIX, SUFFIX, TRIM, TRUNCATE, FIT, PAD, SANITIZE, LINK_AT, SLICE, EXPAND_TABS, REMOVE, REPLACE, LINK, UNLINK = range(18)
 STEPS = [(CUT, 1, 4, b""), (LEFT, 3, 0, b""), (RIGHT, 3, 0, b""), (PART, 1, 0, b","), (PREFIX, 0, 0, b"r"), (SUFFIX, 0, 0, b"x"),
          (TRIM, 0, 0, b""), (TRUNCATE, 3, 0, b"..."), (FIT, 3, 0, b"..."), (PAD, 300, 1, b""), (SANITIZE, 1, 0, b""), (LINK_AT, 1, 0, b""),
-         (SLICE, 1, 5, b""), (EXPAND_TABS, 4, 0, b""), (REMOVE, 1, 3, b"")]
+         (SLICE, 1, 5, b""), (EXPAND_TABS, 4, 0, b""), (REMOVE, 1, 3, b""), (REPLACE, 1, 3, b"\x1b[1mn"), (LINK, 1, 3, b"u"), (UNLINK, 0, 0, b"")]
 WHAT = range(10)
 # so often each request is refused, and what the interpreter may keep for later calls
 TIMES, KEPT = 40, 20
@@ -36,6 +37,7 @@ def calls():
             yield lambda: _library.restyle(data, is_ascii, ranges, b"1")
         for pattern in (b"", b",", b"z"):
             yield lambda: _library.matches(data, is_ascii, pattern)
+        yield lambda: _library.links(data, is_ascii)
         for what in WHAT:
             yield lambda: _library.tell(what, data, is_ascii, b"o", 1)
         for pattern in (b"", b",", b"fox"):

@@ -3,7 +3,8 @@
 A proved library does the work, in the C module beside this file; the environment variable ANSI_STR_SO can name another file.
 
 The plain text is the text without its sequences. A position counts characters (code points) of the plain text. A position past
-the end, however large, counts as the end; only `restyle` and `remove` refuse it, and `find_from` finds nothing there.
+the end, however large, counts as the end; only `restyle`, `remove`, `replace`, `insert` and `link` refuse it, and `find_from` finds
+nothing there.
 
 Each call raises
 - a TypeError that names the argument, if a text or a pattern isn't a `str`;
@@ -32,9 +33,12 @@ The calls, each of which has an example in its own help, such as `help(ansi_str.
     matches(text, pattern)             find_from(text, position, pattern)
     mark(text, pattern, style)         restyle(text, ranges, style)
     remove(text, start, end)           codes(*, foreground=None, background=None, bold=True, ...)
+    replace(text, start, end, new)     insert(text, position, new)
+    link(text, start, end, address)    unlink(text)
+    links(text)
 
 The classes, each with a help of its own: `Block` and `Style`, which `blocks` returns, and the edits `Cut`, `Left`, `Right`, `Part`,
-`Prefix`, `Suffix` and `Trim`. `import *` leaves them out.
+`Prefix`, `Suffix` and `Trim`; `Link`, which `links` returns. `import *` leaves them out.
 
 >>> log = "\\x1b[31mred\\x1b[39m and plain"
 >>> strip(log)
@@ -61,6 +65,7 @@ __all__ = [
     "ALIGNMENTS", "SIDES",
     "find", "find_from", "matches", "starts_with", "ends_with", "has_any", "is_whole",
     "mark", "restyle", "remove", "codes",
+    "replace", "insert", "link", "unlink", "links",
     "sanitize", "is_safe",
     "split", "iter_split", "blocks", "iter_blocks", "ATTRIBUTES", "COLORS",
     "edit",
@@ -91,7 +96,7 @@ _STYLE = struct.Struct("=I4B4B")
 
 # the kinds of edits, the last position, and the questions about a text
 (_CUT, _LEFT, _RIGHT, _PART, _PREFIX, _SUFFIX, _TRIM, _TRUNCATE, _FIT, _PAD, _SANITIZE, _LINK_AT, _SLICE, _EXPAND_TABS,
- _REMOVE) = range(15)
+ _REMOVE, _REPLACE, _LINK, _UNLINK) = range(18)
 _LAST = sys.maxsize
 _STARTS_WITH, _ENDS_WITH, _HAS_ANY, _IS_WHOLE, _IS_SAFE, _FIND, _FIND_FROM, _FITTING, _WIDTH, _COLUMN_OF = range(10)
 
@@ -477,11 +482,83 @@ def remove(text: str, start: int, end: int) -> str:
     >>> remove("one \\x1b[1mtwo\\x1b[22m three", 2, 5)
     'on\\x1b[1mwo\\x1b[22m three'
     """
-    step = _REMOVE, _position("start", start), _position("end", end), b""
-    removed = _edited(text, step)
-    if removed is None:
+    return _ranged(text, _REMOVE, _position("start", start), _position("end", end), b"")
+
+
+def _ranged(text: str, kind: int, start: int, end: int, data: bytes) -> str:
+    made = _edited(text, (kind, start, end, data))
+    if made is None:
         raise ValueError("no range of the plain text: {} up to {}".format(start, end))
-    return removed  # type: ignore[no-any-return]
+    return made  # type: ignore[no-any-return]
+
+
+def replace(text: str, start: int, end: int, new: str) -> str:
+    """The text with another text in place of what its plain text has from one position up to another. The new text is in the style
+    and the link of the character before `start`; at the front, of the first one. Its own sequences come on top of that, and what
+    they open ends with it. Each character before the range or after it keeps its style and its link. Every sequence of the text
+    stays, those in the range behind the new text. ValueError: as by `remove`.
+
+    >>> replace("\\x1b[32mgreen\\x1b[39m", 1, 3, "\\x1b[1mAB")
+    '\\x1b[32mg\\x1b[1mAB\\x1b[22m\\x1b[39m\\x1b[32men\\x1b[39m'
+    """
+    return _ranged(text, _REPLACE, _position("start", start), _position("end", end), _utf8("new", new))
+
+
+def insert(text: str, position: int, new: str) -> str:
+    """The text with another text put in at a position, as `replace` does it with an empty range there. ValueError: the position is
+    past the end of the plain text.
+
+    >>> insert("\\x1b[32mgreen\\x1b[39m.", 5, "ish")
+    '\\x1b[32mgreenish\\x1b[39m.'
+    """
+    place = _position("position", position)
+    longer = _edited(text, (_REPLACE, place, place, _utf8("new", new)))
+    if longer is None:
+        raise ValueError("the position lies past the end of the plain text: {}".format(position))
+    return longer  # type: ignore[no-any-return]
+
+
+def link(text: str, start: int, end: int, address: str) -> str:
+    """The text with what its plain text has from one position up to another linked to an address (OSC 8). Each character there loses
+    another link that it had. Every other character keeps its link: one that goes on into the range ends before it, and one that goes
+    on after it is opened again there. The plain text, the styles and all other sequences stay. ValueError: as by `remove`; or the
+    address is empty, or has a character that isn't printable ASCII.
+
+    >>> link("see \\x1b[1mhere", 4, 8, "http://x")
+    'see \\x1b[1m\\x1b]8;;http://x\\x1b\\\\here\\x1b]8;;\\x1b\\\\'
+    """
+    data = _utf8("address", address)
+    if not data or not all(0x20 <= byte <= 0x7E for byte in data):
+        raise ValueError("address must be printable ASCII, and not empty, not {!r}".format(address))
+    return _ranged(text, _LINK, _position("start", start), _position("end", end), data)
+
+
+def unlink(text: str) -> str:
+    """The text without its links: its OSC 8 sequences are left out, and everything else stays.
+
+    >>> unlink("\\x1b]8;;http://x\\x1b\\\\a \\x1b[1mlink\\x1b[0m\\x1b]8;;\\x1b\\\\")
+    'a \\x1b[1mlink\\x1b[0m'
+    """
+    return _edited(text, (_UNLINK, 0, 0, b""))  # type: ignore[no-any-return]
+
+
+class Link(NamedTuple):
+    """A link of a text: where its range begins and ends in the plain text, and its address."""
+
+    start: int
+    end: int
+    address: str
+
+
+def links(text: str) -> List[Link]:
+    """The links of a text, in order. An OSC 8 sequence with an address opens a link, which goes on up to the next OSC 8 sequence or
+    the end of the text. A link without text is left out.
+
+    >>> links("a \\x1b]8;;http://x\\x1b\\\\l\\x1b[1mink\\x1b]8;;\\x1b\\\\")
+    [Link(start=2, end=6, address='http://x')]
+    """
+    data = _utf8("text", text)
+    return [Link(*each) for each in _library.links(data, len(data) == str.__len__(text))]
 
 
 # A color: a name, a number among 256, or red, green and blue

@@ -13,7 +13,8 @@
 enum { LONG = 1 << 16 };
 
 /* kinds beside those of edits; SANITIZE takes any bytes */
-enum { TRUNCATE = ANSI_STR_EDIT_TRIM + 1, FIT, PAD, SANITIZE, LINK_AT, SLICE, EXPAND_TABS, REMOVE, STRIP, KINDS, MARK = KINDS, RESTYLE };
+enum { TRUNCATE = ANSI_STR_EDIT_TRIM + 1, FIT, PAD, SANITIZE, LINK_AT, SLICE, EXPAND_TABS, REMOVE, REPLACE, LINK, UNLINK, STRIP, KINDS };
+enum { MARK = KINDS, RESTYLE };
 
 /* the questions about a text: those up to IS_SAFE are yes or no, those from FIND to FITTING return a position, the others columns */
 enum { STARTS_WITH, ENDS_WITH, HAS_ANY, IS_WHOLE, IS_SAFE, FIND, FIND_FROM, FITTING, WIDTH, COLUMN_OF, QUESTIONS };
@@ -116,6 +117,14 @@ static ansi_str_answer write_step(const Text *text, const Step *made, const Text
         return ansi_str_raw_expand_tabs(text->bytes, text->size, step->first, room->bytes, room->size);
     case REMOVE:
         return ansi_str_raw_remove(text->bytes, text->size, step->first, step->second, room->bytes, room->size);
+    case REPLACE:
+        return ansi_str_raw_replace(text->bytes, text->size, step->first, step->second, step->pattern, step->pattern_len,
+                                    room->bytes, room->size);
+    case LINK:
+        return ansi_str_raw_link(text->bytes, text->size, step->first, step->second, step->pattern, step->pattern_len,
+                                 room->bytes, room->size);
+    case UNLINK:
+        return ansi_str_raw_unlink(text->bytes, text->size, room->bytes, room->size);
     case MARK:
         return ansi_str_raw_mark(text->bytes, text->size, step->pattern, step->pattern_len, made->codes.bytes, made->codes.size,
                                  room->bytes, room->size);
@@ -127,10 +136,15 @@ static ansi_str_answer write_step(const Text *text, const Step *made, const Text
     }
 }
 
+/* Whether a kind takes a range, which mustn't go past the end. */
+static bool takes_range(uint32_t kind) {
+    return kind == REMOVE || kind == REPLACE || kind == LINK;
+}
+
 /* Makes the text of a step, whose positions count bytes. Returns false with an error set, or with none if the step is refused. */
 static bool make_step(const Text *text, const Step *step, Text *made) {
-    /* (what a mark and a range write is most often shorter than this) */
-    size_t more = step->edit.kind == MARK ? text->size : 48 * step->ranges_len;
+    /* (what a mark, a range and a new text write is most often shorter than this) */
+    size_t more = step->edit.kind == MARK ? text->size : 48 * step->ranges_len + step->edit.pattern_len;
     size_t size = text->size + more + ANSI_STR_LONGEST_START_AND_CLOSE;
     ansi_str_answer answer;
     do {
@@ -225,10 +239,10 @@ static bool make_text(const Text *text, bool is_ascii, PyObject *words, Text *ma
         return false;
     }
     made_of = step_of((uint32_t)kind, first, second, pattern);
-    if (!is_ascii && (kind <= ANSI_STR_EDIT_RIGHT || kind == LINK_AT || kind == REMOVE) &&
-        ((kind != ANSI_STR_EDIT_CUT && kind != REMOVE) || first <= second)) {
+    if (!is_ascii && (kind <= ANSI_STR_EDIT_RIGHT || kind == LINK_AT || takes_range(step->kind)) &&
+        ((kind != ANSI_STR_EDIT_CUT && !takes_range(step->kind)) || first <= second)) {
         Text plain;
-        size_t (*place_of)(const Text *, size_t, size_t) = kind == REMOVE ? place_past : place_after;
+        size_t (*place_of)(const Text *, size_t, size_t) = takes_range(step->kind) ? place_past : place_after;
         if (!make_plain(text, &plain)) {
             return false;
         }
@@ -364,6 +378,15 @@ static PyObject *restyle(PyObject *module, PyObject *words) {
     return answer;
 }
 
+/* How many characters of a plain text are between two places. If there is no plain text, a character is a byte. */
+static Py_ssize_t characters_between(const Text *plain, size_t place, size_t end) {
+    Py_ssize_t count = 0;
+    for (; place < end; place++) {
+        count += plain == NULL || begins_character(plain->bytes[place]);
+    }
+    return count;
+}
+
 /* The list of ranges of a plain text, as positions in characters. If there is no plain text, a character is a byte. */
 static PyObject *list_of_ranges(const Text *plain, const ansi_str_range *ranges, size_t count) {
     PyObject *list = PyList_New((Py_ssize_t)count);
@@ -375,10 +398,8 @@ static PyObject *list_of_ranges(const Text *plain, const ansi_str_range *ranges,
         PyObject *pair;
         for (which = 0; which < 2; which++) {
             size_t end = which == 0 ? ranges[at].start : ranges[at].end;
-            for (; place < end; place++) {
-                characters += plain == NULL || begins_character(plain->bytes[place]);
-            }
-            ends[which] = characters;
+            ends[which] = characters += characters_between(plain, place, end);
+            place = end;
         }
         pair = Py_BuildValue("(nn)", ends[0], ends[1]);
         if (pair == NULL) {
@@ -760,10 +781,72 @@ static PyType_Slot walk_slots[] = {
 
 static PyType_Spec walk_spec = {"ansi_str.Walk", sizeof(Walk), 0, Py_TPFLAGS_DEFAULT, walk_slots};
 
+/* The list of links of a plain text: where each begins and ends, in characters, and its address. */
+static PyObject *list_of_links(const Text *plain, const ansi_str_link_entry *links, size_t count, const uint8_t *addresses) {
+    PyObject *list = PyList_New((Py_ssize_t)count);
+    size_t place = 0, address = 0, at;
+    Py_ssize_t characters = 0;
+    for (at = 0; list != NULL && at < count; at++) {
+        Py_ssize_t start = characters + characters_between(plain, place, links[at].start);
+        PyObject *link;
+        characters = start + characters_between(plain, links[at].start, links[at].end);
+        link = Py_BuildValue("(nnN)", start, characters, decoded(addresses + address, links[at].address_end - address));
+        if (link == NULL) {
+            Py_DecRef(list);
+            return NULL;
+        }
+        PyList_SetItem(list, (Py_ssize_t)at, link);
+        place = links[at].end;
+        address = links[at].address_end;
+    }
+    return list;
+}
+
+/* (text, is_ascii): where each link begins and ends, in characters, and its address. */
+static PyObject *links(PyObject *module, PyObject *words) {
+    PyObject *given, *list = NULL;
+    int is_ascii;
+    Text text, plain = {NULL, NULL, 0};
+    /* (most texts have fewer) */
+    ansi_str_answers answer = {ANSI_STR_OK, 16, 1024};
+    ansi_str_link_entry *entries = NULL;
+    uint8_t *addresses = NULL;
+    (void)module;
+    if (!PyArg_ParseTuple(words, "Sp", &given, &is_ascii)) {
+        return NULL;
+    }
+    text = text_of(given);
+    do {
+        size_t most = answer.count, room = answer.len;
+        ansi_str_link_entry *more_entries = PyMem_Realloc(entries, most * sizeof *entries);
+        uint8_t *more_addresses = more_entries == NULL ? NULL : PyMem_Realloc(addresses, room);
+        PyThreadState *thread;
+        entries = more_entries == NULL ? entries : more_entries;
+        if (more_addresses == NULL) {
+            answer.status = ANSI_STR_OUT_OF_MEMORY;
+            break;
+        }
+        addresses = more_addresses;
+        thread = let_others_run(text.size);
+        answer = ansi_str_raw_links(text.bytes, text.size, addresses, room, entries, most);
+        run_alone(thread);
+    } while (answer.status == ANSI_STR_TOO_SMALL);
+    if (answer.status != ANSI_STR_OK) {
+        set_error(answer.status);
+    } else if (is_ascii || make_plain(&text, &plain)) {
+        list = list_of_links(is_ascii ? NULL : &plain, entries, answer.count, addresses);
+        Py_DecRef(plain.object);
+    }
+    PyMem_Free(entries);
+    PyMem_Free(addresses);
+    return list;
+}
+
 static PyMethodDef calls[] = {
     {"edit", edit, METH_VARARGS, NULL},   {"tell", tell, METH_VARARGS, NULL}, {"walk", walk, METH_VARARGS, NULL},
     {"strip", strip, METH_VARARGS, NULL}, {"wrap", wrap, METH_VARARGS, NULL}, {"walk_lines", walk_lines, METH_VARARGS, NULL},
     {"mark", mark, METH_VARARGS, NULL},   {"restyle", restyle, METH_VARARGS, NULL}, {"matches", matches, METH_VARARGS, NULL},
+    {"links", links, METH_VARARGS, NULL},
     {NULL, NULL, 0, NULL},
 };
 
