@@ -47,7 +47,7 @@ QUESTION(width) QUESTION(fitting, n) QUESTION(column_of, n) TEXT(link_at, n) TEX
 TEXT(sanitize, ANSI_STR_SHOW, ANSI_STR_KEEP_LINKS) TEXT(sanitize_bytes, ANSI_STR_SHOW, ANSI_STR_KEEP_LINKS)
 QUESTION(is_safe, ANSI_STR_KEEP_LINKS)
 QUESTION(starts_with, p.at, p.len) QUESTION(ends_with, p.at, p.len) QUESTION(find, p.at, p.len)
-QUESTION(find_from, n, p.at, p.len) TEXT(mark, p.at, p.len, "1", 1)
+QUESTION(find_from, n, p.at, p.len) TEXT(mark, p.at, p.len, "1", 1) TEXT(insert, n, p.at, p.len)
 
 /* up to a position (C has the name `remove`) */
 static size_t remove_to(struct bytes t, size_t n, struct bytes p) {
@@ -58,6 +58,24 @@ static size_t restyle_to(struct bytes t, size_t n, struct bytes p) {
     (void)p;
     const ansi_str_range range = {0, n};
     return len_of(ansi_str_restyle(t.at, t.len, &range, 1, "1", 1, NULL, 0));
+}
+static size_t replace_to(struct bytes t, size_t n, struct bytes p) {
+    return len_of(ansi_str_replace(t.at, t.len, 0, n, p.at, p.len, NULL, 0));
+}
+static size_t link_to(struct bytes t, size_t n, struct bytes p) {
+    (void)p;
+    return len_of(ansi_str_link(t.at, t.len, 0, n, "u", 1, NULL, 0));
+}
+/* (POSIX has the name `unlink`) */
+static size_t without_links(struct bytes t, size_t n, struct bytes p) {
+    (void)n;
+    (void)p;
+    return len_of(ansi_str_unlink(t.at, t.len, NULL, 0));
+}
+static size_t links(struct bytes t, size_t n, struct bytes p) {
+    (void)n;
+    (void)p;
+    return count_of(ansi_str_links(t.at, t.len, NULL, 0, NULL, 0));
 }
 static size_t matches(struct bytes t, size_t n, struct bytes p) {
     (void)n;
@@ -135,6 +153,8 @@ static const struct call CALLS[] = {
     {"wrap", wrap, 1, 0, 1}, {"lines", lines, 1, 0, 1}, {"link_at", link_at, 1, 0, 0},
     {"sanitize", sanitize, 0, 0, 0}, {"sanitize_bytes", sanitize_bytes, 0, 0, 0}, {"is_safe", is_safe, 0, 0, 0},
     {"remove to", remove_to, 1, 0, 0}, {"restyle to", restyle_to, 1, 0, 0}, {"matches", matches, 0, 1, 1}, {"mark", mark, 0, 1, 0},
+    {"replace to", replace_to, 1, 1, 0}, {"insert", insert, 1, 1, 0}, {"link to", link_to, 1, 0, 0}, {"unlink", without_links, 0, 0, 0},
+    {"links", links, 0, 0, 1},
     {"find_from", find_from, 1, 1, 0}, {"find", find, 0, 1, 0}, {"split", split, 0, 1, 1}, {"part", part, 1, 1, 0},
 };
 enum { CALL_COUNT = sizeof CALLS / sizeof CALLS[0] };
