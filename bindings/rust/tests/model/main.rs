@@ -6,6 +6,7 @@ mod cut;
 mod edits;
 mod find;
 mod kept;
+mod links;
 mod restyle;
 mod sides;
 mod split;

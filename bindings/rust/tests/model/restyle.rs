@@ -8,7 +8,7 @@ use std::borrow::Cow;
 use std::ops::Range;
 
 /// Whether ranges of a plain text are in order, and each is between two character boundaries.
-fn are_in_turn(plain: &str, ranges: &[Range<usize>]) -> bool {
+pub(crate) fn are_in_turn(plain: &str, ranges: &[Range<usize>]) -> bool {
     let mut before = 0;
     ranges.iter().all(|range| {
         let follows = before <= range.start;
@@ -58,7 +58,7 @@ fn removed(text: &Text, range: &Range<usize>) -> String {
 }
 
 /// Whether a result is the text that is wanted, and a borrow where nothing changes; or whether none is wanted.
-fn expect_made(
+pub(crate) fn expect_made(
     tally: &mut Tally,
     got: Option<Cow<'_, str>>,
     want: Option<String>,
