@@ -65,10 +65,10 @@ MADE = {
     "ends_with": lambda text, pattern: [ansi_str.ends_with(text, pattern)],
     "has_any": lambda text: [ansi_str.has_any(text)],
     "is_whole": lambda text: [ansi_str.is_whole(text)],
-    "blocks": lambda text, *_: [[(block.text, block.style.has_any) for block in ansi_str.blocks(text)]],
-    "styled_blocks": lambda text, *_: [[(block.style.start, block.text, block.style.end) for block in ansi_str.blocks(text)]],
+    "blocks": lambda text, *_: [[(block.sequences + block.text, block.style.has_any) for block in ansi_str.blocks(text)]],
+    "styled_blocks": lambda text, *_: [[(block.style.start, block.sequences + block.text, block.style.end) for block in ansi_str.blocks(text)]],
     "count_blocks": lambda text: [len(ansi_str.blocks(text)), sum(1 for _ in ansi_str.iter_blocks(text))],
-    "block": lambda text, index: [block_at(text, index, lambda block: block.text)],
+    "block": lambda text, index: [block_at(text, index, lambda block: block.sequences + block.text)],
     "block_start": lambda text, index: [block_at(text, index, lambda block: block.style.start)],
     "block_end": lambda text, index: [block_at(text, index, lambda block: block.style.end)],
     "width": lambda text: [ansi_str.width(text)],
@@ -201,7 +201,7 @@ class Rows(unittest.TestCase):
 CALLS = {"strip": [], "cut": [0], "left": [0], "right": [0], "part": [",", 0], "strip_prefix": [""], "strip_suffix": [""],
          "trim": [], "width": [], "fitting": [1], "column_of": [0], "truncate": [1], "pad": [1], "fit": [1], "slice_columns": [0],
          "expand_tabs": [8], "wrap": [1], "lines": [1], "iter_lines": [1], "find": [""], "starts_with": [""], "ends_with": [""], "has_any": [], "is_whole": [], "split": [","],
-         "iter_split": [","], "blocks": [], "iter_blocks": [], "edit": [[]], "sanitize": [], "is_safe": [], "link_at": [0],
+         "iter_split": [","], "blocks": [], "iter_blocks": [], "pen_after": [], "edit": [[]], "sanitize": [], "is_safe": [], "link_at": [0],
          "matches": ["a"], "find_from": [0, "a"], "restyle": [[(0, 0)], "1"], "mark": ["a", "1"], "remove": [0, 0],
          "replace": [0, 0, "b"], "insert": [0, "b"], "link": [0, 0, "b"], "unlink": [], "links": []}
 PATTERNED = ["matches", "mark", "part", "strip_prefix", "strip_suffix", "find", "starts_with", "ends_with", "split", "iter_split"]
@@ -428,6 +428,43 @@ class Arguments(unittest.TestCase):
         for code in ("58;5;1", 11):
             self.assertEqual(style_after(code)[:4], (set(), None, None, True))
 
+    def test_links_and_sequences_of_blocks(self):
+        def told(text):
+            return [(block.text, block.link, block.sequences) for block in ansi_str.blocks(text)]
+
+        opened, closed = "\x1b]8;id=1;http://x\x1b\\", "\x1b]8;;\x07"
+        self.assertEqual(told("a" + opened + "b\x1b[1mc" + closed + "d"),
+                         [("a", None, ""), ("b", "http://x", opened), ("c", "http://x", ""), ("d", None, closed)])
+        # another sequence leaves a link open, and one link may follow another
+        self.assertEqual(told(opened + "a\x1b[2Jb\x1b]8;;-\x07c"),
+                         [("a", "http://x", opened), ("b", "http://x", "\x1b[2J"), ("c", "-", "\x1b]8;;-\x07")])
+        # the last of several counts, and a link without text is in no block
+        self.assertEqual(told(opened + closed + "a" + opened), [("a", None, opened + closed)])
+        # a sequence that only begins as a link does is none
+        self.assertEqual(told(opened + "a\x1b]8;b\x1b\\c"), [("a", "http://x", opened), ("c", "http://x", "\x1b]8;b\x1b\\")])
+        # what follows a lone ESC is text
+        self.assertEqual(told("\x1b\x1b[1m[2Ja"), [("[2Ja", None, "\x1b")])
+        self.assertEqual([block[:2] for block in told("\x1b[1m<b>\x1b[2J&\x1b]0;t\x07c")], [("<b>", None), ("&", None), ("c", None)])
+
+    def test_the_pen_after_a_text(self):
+        link, link_end = "\x1b]8;id=1;http://x\x1b\\", "\x1b]8;;\x1b\\"
+        pen = ansi_str.pen_after("\x1b[1;31mred " + link + "li")
+        self.assertEqual(pen[1:], ("http://x", "\x1b[1m\x1b[31m" + link, link_end + "\x1b[22m\x1b[39m"))
+        self.assertEqual((pen.style.attributes, pen.style.foreground), ({"bold"}, "Red"))
+        for text in ("", "plain", "\x1b[31mred\x1b[0m", link + "a" + link_end, "\x1b[2J\x1b", "a\x1b[3", "a\x1b]8;;http://x"):
+            self.assertEqual(ansi_str.pen_after(text)[1:], (None, "", ""))
+        # each line sets what is open before it, and closes what it leaves open
+        lines, pen, carried = ("\x1b[31mone " + link + "two\n\nthree" + link_end + " four\nfive\x1b[m\nsix").split("\n"), ansi_str.pen_after(""), []
+        for line in lines:
+            start, pen = pen.start, ansi_str.pen_after(pen.start + line)
+            carried.append(start + line + pen.end)
+        self.assertEqual(carried, [
+            "\x1b[31mone " + link + "two" + link_end + "\x1b[39m", "\x1b[31m" + link + link_end + "\x1b[39m",
+            "\x1b[31m" + link + "three" + link_end + " four\x1b[39m", "\x1b[31mfive\x1b[m", "six"])
+        # a link that isn't printable ASCII is closed, and not opened again; nor is what an unknown code sets
+        self.assertEqual(ansi_str.pen_after("\x1b]8;;\xe9\x07a")[1:], ("\xe9", "", link_end))
+        self.assertEqual(ansi_str.pen_after("\x1b[4:3ma")[1:], (None, "", "\x1b[0m"))
+
     def test_styles_that_print_differently_differ(self):
         red, unknown = style_after(31), style_after("31m\x1b[99")
         self.assertEqual([red.end, unknown.end], ["\x1b[39m", "\x1b[39m\x1b[0m"])
@@ -442,7 +479,7 @@ class Arguments(unittest.TestCase):
     def test_long_texts(self):
         for text in ("x" * 100000, "\x1b[1mé" * 50000, "\x1b]" * 50000, "\x1b[31;42;1;3;4m" + "a\x1b[5m" * 30000):
             blocks = ansi_str.blocks(text)
-            self.assertEqual("".join(ansi_str.strip(block.text) for block in blocks), ansi_str.strip(text))
+            self.assertEqual("".join(block.text for block in blocks), ansi_str.strip(text))
             self.assertEqual(list(ansi_str.iter_blocks(text)), blocks)
             self.assertEqual("".join(map(ansi_str.strip, ansi_str.split(text, ""))), ansi_str.strip(text))
             self.assertEqual(ansi_str.strip(ansi_str.cut(text, 1000, 2000)), ansi_str.strip(text)[1000:2000])

@@ -35,10 +35,10 @@ The calls, each of which has an example in its own help, such as `help(ansi_str.
     remove(text, start, end)           codes(*, foreground=None, background=None, bold=True, ...)
     replace(text, start, end, new)     insert(text, position, new)
     link(text, start, end, address)    unlink(text)
-    links(text)
+    links(text)                        pen_after(text)
 
-The classes, each with a help of its own: `Block` and `Style`, which `blocks` returns, and the edits `Cut`, `Left`, `Right`, `Part`,
-`Prefix`, `Suffix` and `Trim`; `Link`, which `links` returns. `import *` leaves them out.
+The classes, each with a help of its own: `Block` and `Style`, which `blocks` returns, `Link`, which `links` returns, `Pen`, which
+`pen_after` returns, and the edits `Cut`, `Left`, `Right`, `Part`, `Prefix`, `Suffix` and `Trim`. `import *` leaves them out.
 
 >>> log = "\\x1b[31mred\\x1b[39m and plain"
 >>> strip(log)
@@ -67,7 +67,7 @@ __all__ = [
     "mark", "restyle", "remove", "codes",
     "replace", "insert", "link", "unlink", "links",
     "sanitize", "is_safe",
-    "split", "iter_split", "blocks", "iter_blocks", "ATTRIBUTES", "COLORS",
+    "split", "iter_split", "blocks", "iter_blocks", "pen_after", "ATTRIBUTES", "COLORS",
     "edit",
 ]
 
@@ -765,9 +765,12 @@ class Style(NamedTuple):
 
 
 class Block(NamedTuple):
-    """The non-SGR sequences since the last run, and then a run of text in one style."""
+    """A run of plain text in one style, the address of its link (OSC 8) or None, and the sequences other than SGRs since the run before.
+    The text has no ESC, so it can become HTML once its `&` and `<` are escaped."""
     text: str
     style: Style
+    link: Optional[str]
+    sequences: str
 
 
 def _color_of(kind: int, first: int, second: int, third: int) -> Union[str, int, Tuple[int, int, int], None]:
@@ -784,19 +787,34 @@ def _style_of(data: bytes, start: str, end: str) -> Style:
     return Style(names, _color_of(*fields[1:5]), _color_of(*fields[5:9]), end != "", start, end)
 
 
+# a character that no sequence before it takes in, nor another such character joins; and what closes a link (OSC 8)
+_CELL = "\xe9"
+_LINK_END = "\x1b]8;;\x1b\\"
 # the styles of the last blocks, by their bytes
 _STYLES: Dict[bytes, Style] = {}
 _MOST_STYLES = 256
 
 
+def _link_after(link: Optional[str], sequences: str) -> Optional[str]:
+    """The address of the link after sequences, if `link` is open before them."""
+    opened = link_at(sequences + _CELL, 0)
+    if opened is not None:
+        return opened
+    # (they close each link, or have none)
+    return link if link_at("\x1b]8;;-\x1b\\" + sequences + _CELL, 0) else None
+
+
 def _blocks_of(walk: Any) -> Iterator[Block]:
-    for text, data in walk:
+    link = None
+    for sequences, text, data in walk:
+        if "\x1b]8;" in sequences:
+            link = _link_after(link, sequences)
         style = _STYLES.get(data)
         if style is None:
             if len(_STYLES) >= _MOST_STYLES:
                 _STYLES.clear()
             style = _STYLES[data] = _style_of(data, *walk.sequences())
-        yield Block(text, style)
+        yield Block(text, style, link, sequences)
 
 
 def iter_blocks(text: str) -> Iterator[Block]:
@@ -815,3 +833,31 @@ def blocks(text: str) -> List[Block]:
     [('red', 'Red'), (' and plain', None)]
     """
     return list(iter_blocks(text))
+
+
+class Pen(NamedTuple):
+    """What is open at the end of a text: the style, the address of the link or None, the sequences that open both again, and those that
+    close both, the link first. All of them are empty after a text that leaves nothing open."""
+    style: Style
+    link: Optional[str]
+    start: str
+    end: str
+
+
+def pen_after(text: str) -> Pen:
+    """The style and the link that are open at the end of a text. Print `end` there, and `start` before what goes on in them:
+
+    >>> first, second = "\\x1b[31mone", "two\\x1b[39m"
+    >>> pen = pen_after(first)
+    >>> first + pen.end, pen.start + second
+    ('\\x1b[31mone\\x1b[39m', '\\x1b[31mtwo\\x1b[39m')
+
+    The pen after the second line is `pen_after(pen.start + second)`. `start` doesn't open a link whose sequence has anything but printable
+    ASCII, and doesn't set again what an unknown SGR code has set.
+    """
+    sequences = remove(text, 0, len(strip(text)))
+    _, style, link, _ = blocks(sequences + _CELL)[0]
+    # (a slice opens first what is open where it begins, and closes that at its end, but for a link that it leaves out)
+    start, _, end = slice_columns(sequences + _CELL * 2, 1, 2).partition(_CELL)
+    is_left_out = link is not None and not end.startswith(_LINK_END)
+    return Pen(style, link, start, _LINK_END + end if is_left_out else end)

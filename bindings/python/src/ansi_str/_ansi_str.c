@@ -713,7 +713,7 @@ static PyObject *next_line(Walk *walk) {
 /* the bytes of a style, without padding at the end */
 enum { STYLE = offsetof(ansi_str_style, font) + sizeof(ansi_str_font) };
 
-/* The next part, the ends of the next line, or the text of the next block and the bytes of its style. */
+/* The next part, the ends of the next line, or of the next block the sequences before its run, the run, and the bytes of its style. */
 static PyObject *next_piece(PyObject *self) {
     Walk *walk = (Walk *)self;
     bool are_blocks = walk->pattern == NULL;
@@ -744,12 +744,13 @@ static PyObject *next_piece(PyObject *self) {
     }
     text = decoded(walk->room, answer.len);
     /* (if one of them is NULL, so is the whole, and the error is set; likewise below) */
-    PyUnicode_AppendAndDel(&text, are_blocks ? decoded(block.text, block.text_len) : decoded(part.text, part.text_len));
-    if (text == NULL || !are_blocks) {
+    if (!are_blocks) {
+        PyUnicode_AppendAndDel(&text, decoded(part.text, part.text_len));
         return text;
     }
     walk->style = block.style;
-    return Py_BuildValue("(NN)", text, PyBytes_FromStringAndSize((const char *)&block.style, STYLE));
+    return Py_BuildValue("(NNN)", text, decoded(block.text, block.text_len),
+                         PyBytes_FromStringAndSize((const char *)&block.style, STYLE));
 }
 
 /* The sequences that set and close the style of the last block. */
