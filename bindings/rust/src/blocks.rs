@@ -6,6 +6,10 @@ use crate::AnsiStr;
 use std::borrow::Cow;
 use std::iter::FusedIterator;
 use std::option;
+use std::sync::Arc;
+
+/// A character that no sequence before it takes in, nor another such character joins.
+pub(crate) const CELL: char = '\u{e9}';
 
 /// The blocks of a text, in order. Each is a run of text up to the next sequence, after the non-SGR sequences since the
 /// last run.
@@ -16,14 +20,15 @@ use std::option;
 /// assert_eq!((block.text(), block.style().foreground()), ("red", Some(Color::Red)));
 /// ```
 pub fn get_blocks(text: &str) -> AnsiBlockIter<'_> {
-    AnsiBlockIter(if text.ansi_has_any() {
+    let blocks = if text.ansi_has_any() {
         Blocks::Styled(calls::blocks(text))
     } else {
         Blocks::Bare(Some(text).filter(|text| !text.is_empty()).into_iter())
-    })
+    };
+    AnsiBlockIter { blocks, link: None }
 }
 
-/// A run of text in one style, after the non-SGR sequences since the last run.
+/// A run of text in one style, after the non-SGR sequences since the last run. Blocks compare by their texts and styles.
 ///
 /// ```
 /// use ansi_str::get_blocks;
@@ -32,11 +37,22 @@ pub fn get_blocks(text: &str) -> AnsiBlockIter<'_> {
 ///     println!("{}{}{}", style.start(), block.text(), style.end());
 /// }
 /// ```
-#[derive(Debug, Clone, PartialEq, Eq)]
+#[derive(Debug, Clone)]
 pub struct AnsiBlock<'a> {
     text: Cow<'a, str>,
+    /// Where the run begins in the text.
+    run_start: usize,
     style: Style,
+    link: Option<Arc<str>>,
 }
+
+impl PartialEq for AnsiBlock<'_> {
+    fn eq(&self, other: &Self) -> bool {
+        self.text == other.text && self.style == other.style
+    }
+}
+
+impl Eq for AnsiBlock<'_> {}
 
 impl AnsiBlock<'_> {
     /// The text, with those sequences.
@@ -49,6 +65,32 @@ impl AnsiBlock<'_> {
     #[must_use]
     pub fn text(&self) -> &str {
         &self.text
+    }
+
+    /// The run alone: a piece of the plain text, without ESC. So it can become HTML, once its `&` and `<` are escaped.
+    ///
+    /// ```
+    /// use ansi_str::get_blocks;
+    /// let block = get_blocks("\x1b[2J\x1b[31mred\x1b[39m").next().unwrap();
+    /// assert_eq!((block.run(), block.text()), ("red", "\x1b[2Jred"));
+    /// ```
+    #[must_use]
+    pub fn run(&self) -> &str {
+        &self.text[self.run_start..]
+    }
+
+    /// The address of the link (OSC 8) of the run, or `None` if it has none.
+    ///
+    /// ```
+    /// use ansi_str::get_blocks;
+    /// let links: Vec<_> = get_blocks("a \x1b]8;;http://x\x1b\\link\x1b]8;;\x1b\\.")
+    ///     .map(|block| block.link().map(str::to_owned))
+    ///     .collect();
+    /// assert_eq!(links, [None, Some("http://x".to_owned()), None]);
+    /// ```
+    #[must_use]
+    pub fn link(&self) -> Option<&str> {
+        self.link.as_deref()
     }
 
     /// Whether the style has something to close.
@@ -85,7 +127,11 @@ impl AnsiBlock<'_> {
 /// ```
 #[derive(Debug, Clone)]
 #[must_use = "iterators are lazy and do nothing unless consumed"]
-pub struct AnsiBlockIter<'a>(Blocks<'a>);
+pub struct AnsiBlockIter<'a> {
+    blocks: Blocks<'a>,
+    /// The link of the last block.
+    link: Option<Arc<str>>,
+}
 
 #[derive(Debug, Clone)]
 enum Blocks<'a> {
@@ -98,15 +144,24 @@ impl<'a> Iterator for AnsiBlockIter<'a> {
     type Item = AnsiBlock<'a>;
 
     fn next(&mut self) -> Option<Self::Item> {
-        let (text, style) = match &mut self.0 {
-            Blocks::Bare(text) => (Cow::Borrowed(text.next()?), Style::EMPTY),
+        let (text, run_start, style) = match &mut self.blocks {
+            Blocks::Bare(text) => (Cow::Borrowed(text.next()?), 0, Style::EMPTY),
             Blocks::Styled(blocks) => blocks.next()?,
         };
-        Some(AnsiBlock { text, style })
+        let sequences = &text[..run_start];
+        if sequences.contains("\x1b]8;") {
+            self.link = link_after(self.link.take(), sequences);
+        }
+        Some(AnsiBlock {
+            run_start,
+            style,
+            link: self.link.clone(),
+            text,
+        })
     }
 
     fn size_hint(&self) -> (usize, Option<usize>) {
-        match &self.0 {
+        match &self.blocks {
             Blocks::Bare(text) => text.size_hint(),
             Blocks::Styled(blocks) => blocks.size_hint(),
         }
@@ -114,3 +169,13 @@ impl<'a> Iterator for AnsiBlockIter<'a> {
 }
 
 impl FusedIterator for AnsiBlockIter<'_> {}
+
+/// The link after sequences, if `link` is open before them.
+fn link_after(link: Option<Arc<str>>, sequences: &str) -> Option<Arc<str>> {
+    match calls::link_at(&format!("{sequences}{CELL}"), 0) {
+        Some(address) => Some(address.into()),
+        // (they close each link, or have none)
+        None => link
+            .filter(|_| calls::link_at(&format!("\x1b]8;;-\x1b\\{sequences}{CELL}"), 0).is_some()),
+    }
+}

@@ -966,7 +966,7 @@ impl<'a> Iterator for Parts<'a> {
     }
 }
 
-/// The blocks of a text that are left, each as its text and its style.
+/// The blocks of a text that are left, each as its text, where its run begins in that, and its style.
 #[derive(Debug, Clone)]
 pub(crate) struct Blocks<'a> {
     walk: RawWalk,
@@ -1001,10 +1001,10 @@ unsafe fn told<'a>(bytes: Bytes, len: usize) -> &'a str {
 }
 
 impl<'a> Iterator for Blocks<'a> {
-    type Item = (Cow<'a, str>, Style);
+    type Item = (Cow<'a, str>, usize, Style);
 
     #[inline]
-    fn next(&mut self) -> Option<(Cow<'a, str>, Style)> {
+    fn next(&mut self) -> Option<(Cow<'a, str>, usize, Style)> {
         let mut block = RawBlock {
             text: "".as_ptr(),
             len: 0,
@@ -1017,13 +1017,14 @@ impl<'a> Iterator for Blocks<'a> {
         let mut sequences = sequences.ok()?;
         // SAFETY: the call has returned it, and the text lives as long as `'a` says
         let run = unsafe { told(block.text, block.len) };
+        let run_start = sequences.len();
         let text = if sequences.is_empty() {
             Cow::Borrowed(run)
         } else {
             sequences.push_str(run);
             Cow::Owned(sequences)
         };
-        Some((text, Style(block.style)))
+        Some((text, run_start, Style(block.style)))
     }
 }
 

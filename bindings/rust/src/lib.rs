@@ -25,12 +25,14 @@ mod blocks;
 mod calls;
 pub mod columns;
 mod edits;
+mod pen;
 pub mod restyle;
 pub mod safe;
 mod style;
 
 pub use blocks::{get_blocks, AnsiBlock, AnsiBlockIter};
 pub use edits::{edit, is_whole, part, Edit};
+pub use pen::{pen_after, Pen};
 pub use style::{AnsiSequenceEnd, AnsiSequenceStart, Color, Style};
 
 use calls::Refusal;

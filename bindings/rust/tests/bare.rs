@@ -1,6 +1,6 @@
 //! Texts without ESC, which std alone handles: `bindings/test` runs this over a library each of whose calls stops the program.
 
-use ansi_str::{edit, get_blocks, is_whole, part, AnsiStr, Edit};
+use ansi_str::{edit, get_blocks, is_whole, part, pen_after, AnsiStr, Edit};
 use std::borrow::Cow;
 
 const TEXTS: [&str; 5] = ["", "a", " b\u{e9}ta, beta\n", "\u{2003}", "m[31m"];
@@ -80,10 +80,13 @@ fn all_of_a_text_is_one_block_without_a_style() {
             (&*text.ansi_strip(), &*text.ansi_trim()),
             (text, text.trim())
         );
+        let pen = pen_after(text);
+        assert_eq!((pen.link(), pen.start(), pen.end()), (None, "", ""));
         let blocks: Vec<_> = get_blocks(text).collect();
         assert_eq!(blocks.len(), usize::from(!text.is_empty()));
         for block in blocks {
             assert_eq!((block.text(), block.has_ansi()), (text, false));
+            assert_eq!((block.run(), block.link()), (text, None));
             let style = block.style();
             assert_eq!((style.foreground(), style.background()), (None, None));
             assert_eq!(style.start().to_string() + &style.end().to_string(), "");

@@ -1,6 +1,6 @@
 //! Which results are borrows, and which types have the calls.
 
-use ansi_str::{get_blocks, AnsiSequenceEnd, AnsiStr};
+use ansi_str::{get_blocks, pen_after, AnsiBlock, AnsiSequenceEnd, AnsiStr};
 use std::borrow::Cow;
 
 fn is_borrow(text: &Cow<'_, str>) -> bool {
@@ -50,6 +50,100 @@ fn blocks_have_styles() {
     assert_eq!(blocks[0].style().end().to_string(), "\x1b[39m");
     assert!(!blocks[1].has_ansi());
     assert_eq!(AnsiSequenceEnd::RESET_ALL, "\x1b[0m");
+}
+
+#[test]
+fn blocks_have_links_and_runs() {
+    fn told(text: &str) -> Vec<(String, Option<String>)> {
+        let owned =
+            |block: AnsiBlock<'_>| (block.run().to_owned(), block.link().map(str::to_owned));
+        get_blocks(text).map(owned).collect()
+    }
+    fn want(runs: &[(&str, Option<&str>)]) -> Vec<(String, Option<String>)> {
+        let owned = |(run, link): &(&str, Option<&str>)| (run.to_string(), link.map(str::to_owned));
+        runs.iter().map(owned).collect()
+    }
+    let (opened, closed, x) = (
+        "\x1b]8;id=1;http://x\x1b\\",
+        "\x1b]8;;\x07",
+        Some("http://x"),
+    );
+    assert_eq!(
+        told(&format!("a{opened}b\x1b[1mc{closed}d")),
+        want(&[("a", None), ("b", x), ("c", x), ("d", None)])
+    );
+    // another sequence, and one that only begins as a link does, leave a link open; one link may follow another
+    assert_eq!(
+        told(&format!("{opened}a\x1b[2Jb\x1b]8;c\x1b\\d\x1b]8;;-\x07e")),
+        want(&[("a", x), ("b", x), ("d", x), ("e", Some("-"))])
+    );
+    assert_eq!(
+        told(&format!("{opened}{closed}a{opened}")),
+        want(&[("a", None)])
+    );
+    // what follows a lone ESC is text
+    assert_eq!(told("\x1b\x1b[1m[2Ja"), want(&[("[2Ja", None)]));
+    assert_eq!(told("plain"), want(&[("plain", None)]));
+    // blocks compare by text and style
+    let linked = format!("a\x1b[1m{opened}b\x1b[22ma");
+    let blocks: Vec<_> = get_blocks(&linked).collect();
+    assert_eq!((blocks[0].link(), blocks[2].link()), (None, x));
+    assert_eq!(blocks[0], blocks[2]);
+}
+
+#[test]
+fn the_pen_after_a_text() {
+    let (link, link_end) = ("\x1b]8;id=1;http://x\x1b\\", "\x1b]8;;\x1b\\");
+    let pen = pen_after(&format!("\x1b[1;31mred {link}li"));
+    assert!(pen.style().is_bold());
+    assert_eq!(pen.link(), Some("http://x"));
+    assert_eq!(pen.start(), format!("\x1b[1m\x1b[31m{link}"));
+    assert_eq!(pen.end(), format!("{link_end}\x1b[22m\x1b[39m"));
+    let ended = format!("{link}a{link_end}");
+    for text in [
+        "",
+        "plain",
+        "\x1b[31mred\x1b[0m",
+        &ended,
+        "\x1b[2J\x1b",
+        "a\x1b[3",
+        "a\x1b]8;;http://x",
+    ] {
+        let pen = pen_after(text);
+        assert_eq!(
+            (pen.link(), pen.start(), pen.end()),
+            (None, "", ""),
+            "{text:?}"
+        );
+    }
+    // each line sets what is open before it, and closes what it leaves open
+    let text = format!("\x1b[31mone {link}two\n\nthree{link_end} four\nfive\x1b[m\nsix");
+    let mut start = String::new();
+    let mut carried = Vec::new();
+    for line in text.split('\n') {
+        let line = start + line;
+        let pen = pen_after(&line);
+        carried.push(line + pen.end());
+        start = pen.start().to_owned();
+    }
+    assert_eq!(
+        carried,
+        [
+            &format!("\x1b[31mone {link}two{link_end}\x1b[39m"),
+            &format!("\x1b[31m{link}{link_end}\x1b[39m"),
+            &format!("\x1b[31m{link}three{link_end} four\x1b[39m"),
+            "\x1b[31mfive\x1b[m",
+            "six"
+        ]
+    );
+    // a link that isn't printable ASCII is closed, and not opened again; nor is what an unknown code sets
+    let pen = pen_after("\x1b]8;;\u{e9}\x07a");
+    assert_eq!(
+        (pen.link(), pen.start(), pen.end()),
+        (Some("\u{e9}"), "", link_end)
+    );
+    let pen = pen_after("\x1b[4:3ma");
+    assert_eq!((pen.start(), pen.end()), ("", "\x1b[0m"));
 }
 
 #[test]
