@@ -554,12 +554,48 @@ export function iterSplit(text, pattern) {
   return iterParts(textOf('text', text), textOf('pattern', pattern));
 }
 
+/** A character that no sequence before it takes in, nor another such character joins; and what closes a link (OSC 8). */
+const CELL = '\xe9';
+const LINK_END = '\x1b]8;;\x1b\\';
+
+/** The address of the link after sequences, if `link` is open before them. */
+function linkAfter(link, sequences) {
+  // (if none is open after them, they close each link, or have none)
+  return raw.linkAt(sequences + CELL, 0) ?? (raw.linkAt(`\x1b]8;;-\x1b\\${sequences}${CELL}`, 0) === null ? null : link);
+}
+
+/** The blocks, each with its link. */
+function* linked(blocks) {
+  let link = null;
+  for (const block of blocks) {
+    if (block.sequences.includes('\x1b]8;')) {
+      link = linkAfter(link, block.sequences);
+    }
+    yield { ...block, link };
+  }
+}
+
 export function iterBlocks(text) {
-  return blockWalk(textOf('text', text));
+  return linked(blockWalk(textOf('text', text)));
+}
+
+/** A block of a whole text: its run, and the sequences before that. */
+function apart({ text, style }) {
+  const run = text.includes('\x1b') ? raw.strip(text) : text;
+  return { text: run, style, sequences: text.slice(0, text.length - run.length) };
 }
 
 export function blocks(text) {
-  return blocksOf(textOf('text', text));
+  // (a lone ESC before a run may begin a sequence with it, so only a walk says where the run begins)
+  return isWhole(text) ? [...linked(blocksOf(text).map(apart))] : [...iterBlocks(text)];
+}
+
+export function penAfter(text) {
+  const sequences = remove(text, 0, strip(text).length);
+  const [{ style, link }] = blocks(sequences + CELL);
+  // (a slice opens first what is open where it begins, and closes that at its end, but for a link that it leaves out)
+  const [start, end] = raw.sliceColumns(sequences + CELL + CELL, 1, 2).split(CELL);
+  return { style, link, start, end: link !== null && !end.startsWith(LINK_END) ? LINK_END + end : end };
 }
 
 export function width(text) {

@@ -74,9 +74,9 @@ for (const [name, text] of Object.entries(texts)) {
 /** What a text shows: each stretch of its plain text with its style. */
 function seen(text, edit = (stretch) => stretch) {
   const stretches = [];
-  for (const { text: given, style } of blocks(text)) {
+  for (const { text: run, style } of blocks(text)) {
     const look = JSON.stringify([style.attributes, style.foreground, style.background]);
-    const stretch = edit(strip(given));
+    const stretch = edit(run);
     if (stretches.at(-1)?.[1] === look) {
       stretches.at(-1)[0] += stretch;
     } else if (stretch !== '') {

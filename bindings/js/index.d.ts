@@ -180,10 +180,14 @@ export interface Style {
 }
 
 export interface Block {
-  /** The lone ESCs and the sequences other than SGRs since the run before, and then the run. */
+  /** The run: a piece of the plain text, without ESC. So it can become HTML, once its `&` and `<` are escaped. */
   text: string;
   /** The style of the run. */
   style: Style;
+  /** The address of the link (OSC 8) of the run, or null. */
+  link: string | null;
+  /** The lone ESCs and the sequences other than SGRs since the run before. */
+  sequences: string;
 }
 
 /**
@@ -194,6 +198,26 @@ export function blocks(text: string): Block[];
 
 /** An iterator over what `blocks` returns, one block at a time. */
 export function iterBlocks(text: string): IterableIterator<Block>;
+
+/** What is open at the end of a text. */
+export interface Pen {
+  style: Style;
+  /** The address of the link (OSC 8), or null. */
+  link: string | null;
+  /**
+   * The sequences that open both again, the style first. A link whose sequence has anything but printable ASCII isn't opened, and what an
+   * unknown SGR code has set isn't set.
+   */
+  start: string;
+  /** The sequences that close both, the link first. */
+  end: string;
+}
+
+/**
+ * The style and the link that are open at the end of a text. So each line of several can be printed alone: print its `end` there, and its
+ * `start` before the next line. The pen after that line is `penAfter(start + line)`.
+ */
+export function penAfter(text: string): Pen;
 
 /** The display width of the text in columns: the sum over the extended grapheme clusters of what a terminal shows. */
 export function width(text: string): number;

@@ -436,6 +436,7 @@ function styleAt(frame, at, start, end) {
   };
 }
 
+/** The blocks. The text of each is its run after the sequences before it. */
 export function blocks(text) {
   return called([text], [], roomForList(text, ENTRY),
     (exports, frame) => exports.ansi_str_raw_styled_blocks(...frame.head, ...frame.texts[0], ...frame.out, ...frame.list),
@@ -461,9 +462,10 @@ const sequencesOf = (frame, at) => ['ansi_str_raw_style_start', 'ansi_str_raw_st
 /** The sequences of the styles that walks met last, by the bytes of a style. */
 const known = new Map();
 
-/** The block of a walk. */
+/** The block of a walk. `text` is its run alone. */
 function blockAt(frame) {
-  const text = itemText(frame);
+  const sequences = written(frame);
+  const text = frame.stretch(frame.item);
   const at = frame.item + 16;
   const bytes = String.fromCharCode(...frame.bytes.subarray(at, at + STYLE));
   if (!known.has(bytes)) {
@@ -473,10 +475,10 @@ function blockAt(frame) {
     known.set(bytes, sequencesOf(frame, at));
   }
   const [start, end] = known.get(bytes);
-  return { text, style: styleAt(frame, at, start, end) };
+  return { text, style: styleAt(frame, at, start, end), sequences };
 }
 
-/** The same blocks one by one. */
+/** The same blocks one by one, each with the sequences before its run. */
 export function iterBlocks(text) {
   return walked([text],
     (exports, { answer, texts, walk }) => exports.ansi_str_raw_blocks_begin(BigInt(answer), ...texts[0], BigInt(walk)),

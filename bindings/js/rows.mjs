@@ -130,14 +130,14 @@ function answersOf(ansi, call, found, want, text, more) {
     case 'count_parts':
       return [[ansi.split(text, first).length, Number(want)]];
     case 'blocks':
-      return [[ansi.blocks(text).flatMap(({ text, style }) => [text, style.hasAny ? '1' : '0']), more.filter((_, index) => index % 5 === 0 || index % 5 === 4)],
+      return [[ansi.blocks(text).flatMap(({ text, sequences, style }) => [sequences + text, style.hasAny ? '1' : '0']), more.filter((_, index) => index % 5 === 0 || index % 5 === 4)],
         [[...ansi.iterBlocks(text)], ansi.blocks(text)]];
     case 'styled_blocks':
-      return [[ansi.blocks(text).flatMap(({ text, style }) => [style.start, text, style.end]), more], [[...ansi.iterBlocks(text)], ansi.blocks(text)]];
+      return [[ansi.blocks(text).flatMap(({ text, sequences, style }) => [style.start, sequences + text, style.end]), more], [[...ansi.iterBlocks(text)], ansi.blocks(text)]];
     case 'count_blocks':
       return [[ansi.blocks(text).length, Number(want)]];
     case 'block':
-      return [[ansi.blocks(text)[number]?.text ?? null, found]];
+      return [[ansi.blocks(text).map(({ text, sequences }) => sequences + text)[number] ?? null, found]];
     case 'block_start':
       return [[ansi.blocks(text)[number]?.style.start ?? null, found]];
     case 'block_end':

@@ -10,7 +10,7 @@ import { setFlagsFromString } from 'node:v8';
 import { runInNewContext } from 'node:vm';
 import {
   OutOfMemoryError, blocks, columnOf, cut, edit, endsWith, expandTabs, find, findFrom, fit, fitting, floorCharBoundary, hasAny, isSafe, isWhole, iterBlocks, iterLines, iterSplit, lines, linkAt,
-  insert, link, links, mark, matches, pad, part, remove, replace, restyle, sanitize, sliceColumns, split, splitAt, startsWith, strip, stripPrefix, stripSuffix, trim, truncate, unlink, width, wrap,
+  insert, link, links, mark, matches, pad, part, penAfter, remove, replace, restyle, sanitize, sliceColumns, split, splitAt, startsWith, strip, stripPrefix, stripSuffix, trim, truncate, unlink, width, wrap,
 } from './index.js';
 import * as ansiStr from './index.js';
 import { called, written } from './memory.js';
@@ -232,8 +232,47 @@ test('what is no text or no position is refused', () => {
   assert.throws(() => truncate('abc', 5, { side: 'left' }), /end, start, middle/);
 });
 
+/** The runs of the blocks of a text, with their links and the sequences before them. */
+const told = (text) => blocks(text).map(({ text: run, link, sequences }) => [run, link, sequences]);
+
+test('a block has the link of its run', () => {
+  const [opened, closed] = ['\x1b]8;id=1;http://x\x1b\\', '\x1b]8;;\x07'];
+  assert.deepEqual(told(`a${opened}b\x1b[1mc${closed}d`),
+    [['a', null, ''], ['b', 'http://x', opened], ['c', 'http://x', ''], ['d', null, closed]]);
+  // another sequence, and one that only begins as a link does, leave a link open; one link may follow another
+  assert.deepEqual(told(`${opened}a\x1b[2Jb\x1b]8;c\x1b\\d\x1b]8;;-\x07e`),
+    [['a', 'http://x', opened], ['b', 'http://x', '\x1b[2J'], ['d', 'http://x', '\x1b]8;c\x1b\\'], ['e', '-', '\x1b]8;;-\x07']]);
+  assert.deepEqual(told(`${opened}${closed}a${opened}`), [['a', null, opened + closed]]);
+  // what follows a lone ESC is text
+  assert.deepEqual(told('\x1b\x1b[1m[2Ja'), [['[2Ja', null, '\x1b']]);
+});
+
+test('the pen after a text has what is open there', () => {
+  const [link, linkEnd] = ['\x1b]8;id=1;http://x\x1b\\', '\x1b]8;;\x1b\\'];
+  const { style, ...pen } = penAfter(`\x1b[1;31mred ${link}li`);
+  assert.deepEqual(pen, { link: 'http://x', start: `\x1b[1m\x1b[31m${link}`, end: `${linkEnd}\x1b[22m\x1b[39m` });
+  assert.deepEqual([style.attributes, style.foreground], [['bold'], 'red']);
+  const ends = (text) => [penAfter(text).link, penAfter(text).start, penAfter(text).end];
+  for (const text of ['', 'plain', '😀', '\x1b[31mred\x1b[0m', `${link}a${linkEnd}`, '\x1b[2J\x1b', 'a\x1b[3', 'a\x1b]8;;http://x']) {
+    assert.deepEqual(ends(text), [null, '', '']);
+  }
+  // each line sets what is open before it, and closes what it leaves open
+  let start = '';
+  const carried = `\x1b[31mone ${link}two\n\nthree${linkEnd} four\nfive\x1b[m\nsix`.split('\n').map((line) => {
+    const whole = start + line;
+    const { start: next, end } = penAfter(whole);
+    start = next;
+    return whole + end;
+  });
+  assert.deepEqual(carried, [`\x1b[31mone ${link}two${linkEnd}\x1b[39m`, `\x1b[31m${link}${linkEnd}\x1b[39m`,
+    `\x1b[31m${link}three${linkEnd} four\x1b[39m`, '\x1b[31mfive\x1b[m', 'six']);
+  // a link that isn't printable ASCII is closed, and not opened again; nor is what an unknown code sets
+  assert.deepEqual(ends('\x1b]8;;\xe9\x07a'), ['\xe9', '', linkEnd]);
+  assert.deepEqual(ends('\x1b[4:3ma'), [null, '', '\x1b[0m']);
+});
+
 test('a block has the sequences other than SGRs, and a cut every sequence up to its end', () => {
-  assert.deepEqual(blocks('a\x1b]0;t\x07\x1b[1m\x1bé\x1b[Kc\x1b[K').map(({ text }) => text), ['a', '\x1b]0;t\x07\x1bé', '\x1b[Kc']);
+  assert.deepEqual(told('a\x1b]0;t\x07\x1b[1m\x1bé\x1b[Kc\x1b[K'), [['a', null, ''], ['é', null, '\x1b]0;t\x07\x1b'], ['c', null, '\x1b[K']]);
   assert.equal(cut('\x1b]0;t\x07\x1b[1ma\x1b[Kb\x1b[Jc\x1b[22md', 1, 2), '\x1b]0;t\x07\x1b[1m\x1b[Kb\x1b[J\x1b[22m');
 });
 

@@ -91,7 +91,7 @@ function cssOf(color) {
 const SEQUENCE = /\x1b(?:\[[0-?]*[ -/]*[@-~]|[P\]X^_][^\x1b\x07]*(?:\x1b\\|\x07)|[ -/]*[0-~])/g;
 /** A sequence that the text ends inside. */
 const UNFINISHED = /\x1b(?:[P\]X^_][^\x1b\x07]*|\[[0-?]*[ -/]*|[ -/]*)$/;
-const LINK = /^\x1b\]8;[^;]*;(.*?)(?:\x1b\\|\x07)$/;
+const LINK = /^\x1b\]8;[^;]*;/;
 const NEXT = 'next';
 
 /** What a terminal shows of a text and of what is printed after it: stretches with their styles and links, and what drives it. */
@@ -99,20 +99,14 @@ function seen(text) {
   const unfinished = text.match(UNFINISHED)?.[0] ?? '';
   const body = text.slice(0, text.length - unfinished.length) + NEXT;
   const stretches = [];
-  let link = '';
-  for (const block of library.blocks(body)) {
-    const plain = library.strip(block.text);
-    const front = block.text.endsWith(plain) ? block.text.slice(0, block.text.length - plain.length) : '';
-    for (const sequence of front.match(SEQUENCE) ?? []) {
-      const address = sequence.match(LINK);
-      if (address) {
-        link = address[1];
-      } else {
+  for (const { text: plain, style, link, sequences } of library.blocks(body)) {
+    for (const sequence of sequences.match(SEQUENCE) ?? []) {
+      if (!LINK.test(sequence)) {
         stretches.push({ driving: sequence });
       }
     }
-    const { attributes, foreground, background } = block.style;
-    const look = { link, attributes, foreground, background };
+    const { attributes, foreground, background } = style;
+    const look = { link: link ?? '', attributes, foreground, background };
     const { plain: before, ...lookBefore } = stretches.at(-1) ?? {};
     if (JSON.stringify(lookBefore) === JSON.stringify(look)) {
       stretches.pop();
