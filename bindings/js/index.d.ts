@@ -96,8 +96,8 @@ export function remove(text: string, start: number, end: number): string;
 /**
  * The text with another text in place of what its plain text has from `start` to `end`. The replacement is in the style and the link of the
  * character before `start`; at the front, of the first one. Its own sequences come on top of that, and what they open ends with it. Each
- * character before the range or after it keeps its style and its link. Every sequence of the text stays, those in the range behind the
- * replacement. Throws as `remove` does.
+ * character before the range or after it keeps its style and its link. Every sequence of the text stays; those in the range come right after
+ * the replacement. Throws as `remove` does.
  */
 export function replace(text: string, start: number, end: number, replacement: string): string;
 

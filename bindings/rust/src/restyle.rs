@@ -95,8 +95,8 @@ pub trait AnsiRestyle: AnsiStr {
 
     /// The text with another text in place of a range of its plain text. The new text is in the style and the link of the
     /// character before the range; at the front, of the first one. Its own sequences come on top of that, and what they open
-    /// ends with it. Each character before the range or after it keeps its style and its link. Every sequence of the text stays,
-    /// those in the range behind the new text.
+    /// ends with it. Each character before the range or after it keeps its style and its link. Every sequence of the text stays;
+    /// those in the range come right after the new text.
     ///
     /// It is `None` if [`ansi_remove`](AnsiRestyle::ansi_remove) refuses the range, and borrowed if the range and the new text
     /// are empty.

@@ -525,8 +525,8 @@ static inline ansi_str_answer ansi_str_remove(const char *text, size_t text_len,
 
 /* The text with another text in place of its plain bytes from one position up to another. The new text is in the style and the
    link of the character before `start`; at the front, of the first one. Its own sequences come on top of that, and what they open
-   ends with it. Each character before the range or after it keeps its style and its link. Every sequence of the text stays, those
-   in the range behind the new text. The result is at most ANSI_STR_LONGEST_START_AND_CLOSE + ANSI_STR_LONGEST_LINK_END bytes
+   ends with it. Each character before the range or after it keeps its style and its link. Every sequence of the text stays; those
+   in the range come right after the new text. The result is at most ANSI_STR_LONGEST_START_AND_CLOSE + ANSI_STR_LONGEST_LINK_END bytes
    longer than both texts and the sequence of the link there. ANSI_STR_REFUSED: as ansi_str_remove. ANSI_STR_NOT_UTF8: one of the
    texts isn't UTF-8. Allocates if the range or the new text isn't empty, on any text.
    "\x1b[32mgreen\x1b[39m" from 1 up to 3 with "\x1b[1mAB" gives "\x1b[32mg\x1b[1mAB\x1b[22m\x1b[39m\x1b[32men\x1b[39m". */

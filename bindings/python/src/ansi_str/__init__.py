@@ -496,7 +496,7 @@ def replace(text: str, start: int, end: int, new: str) -> str:
     """The text with another text in place of what its plain text has from one position up to another. The new text is in the style
     and the link of the character before `start`; at the front, of the first one. Its own sequences come on top of that, and what
     they open ends with it. Each character before the range or after it keeps its style and its link. Every sequence of the text
-    stays, those in the range behind the new text. ValueError: as by `remove`.
+    stays; those in the range come right after the new text. ValueError: as by `remove`.
 
     >>> replace("\\x1b[32mgreen\\x1b[39m", 1, 3, "\\x1b[1mAB")
     '\\x1b[32mg\\x1b[1mAB\\x1b[22m\\x1b[39m\\x1b[32men\\x1b[39m'
