@@ -62,6 +62,8 @@ pub mod IndentLawLemmas
 pub mod TailLemmas
 pub mod RowLemmas
 pub mod RowScreenLemmas
+pub mod SequenceLemmas
+pub mod EditLemmas
 pub mod PlainCellLemmas
 pub mod PrintableTextLemmas
 pub mod FrontRunLemmas

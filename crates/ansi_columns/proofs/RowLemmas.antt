@@ -124,7 +124,7 @@ row-closed t whole =
     ap row (sym (padded-closed_alone t)) ∙ row-padded t 0 Left whole
     ∙ ap (λ n. joined (joined (blank_row 0) (row t)) (blank_row n)) none ∙ rows (append-nil (styled t)) (append-nil (linked t))
 
-row-closed_cell : (t : List ℕ) → IsUtf8 t → row (closed_cell t) ≡ cell_row t
+pub row-closed_cell : (t : List ℕ) → IsUtf8 t → row (closed_cell t) ≡ cell_row t
 row-closed_cell t utf8 = row-closed (cell t) (whole-cell t utf8)
 
 -- ---- columns of a text

@@ -154,7 +154,7 @@ bare-all test t bare is = ap (list_all test) (pieces_of-bare t bare) ∙ by t is
 printing-on_line : (c : ℕ) → is_printing c ≡ true → not (c == 9 || (c == 10 || c == 13)) ≡ true
 printing-on_line c is = grind (arith, nat_tests)
 
-all-on_line : (cs : List ℕ) → list_all is_printing cs ≡ true → list_all (λ c. not (c == 9 || (c == 10 || c == 13))) cs ≡ true
+pub all-on_line : (cs : List ℕ) → list_all is_printing cs ≡ true → list_all (λ c. not (c == 9 || (c == 10 || c == 13))) cs ≡ true
 all-on_line [] all = refl
 all-on_line (c ∷ cs) all =
     let both = and_parts (is_printing c) (list_all is_printing cs) all in

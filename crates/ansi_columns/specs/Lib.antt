@@ -17,6 +17,7 @@ pub mod Rows
 pub mod WrapStates
 pub mod Addresses
 pub mod Tabs
+pub mod Edits
 pub mod Words
 pub mod LineWalks
 pub mod PlainCells

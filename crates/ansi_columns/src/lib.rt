@@ -10,6 +10,7 @@
 pub mod addresses;
 mod break_state;
 pub mod columns;
+pub mod edits;
 pub mod fit;
 mod fits;
 mod from_end;
@@ -28,6 +29,7 @@ mod widths;
 pub mod wrap;
 
 pub use columns::AnsiColumns;
+pub use edits::ColumnEdit;
 pub use shown::Alignment;
 pub use sides::{Side, Truncation};
 pub use wrap::indents::Wrap;

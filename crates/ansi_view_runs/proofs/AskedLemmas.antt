@@ -9,9 +9,11 @@ use Rattle.std.proofs.lemmas.List.Elements.{All-from_recursion, recursion_from_A
 use Rattle.std.proofs.lemmas.List.Quantifiers.{position-Some}
 use Rattle.std.proofs.lemmas.Str.{IsUtf8-nil, IsUtf8-take, IsUtf8-drop, IsCharBoundary-before_ascii, IsCharBoundary-after_ascii}
 use Rattle.ansi_lines_runs.specs.Words.{is_colon, at_colon, field_number, end_of}
-use Rattle.ansi_view_runs.specs.Edits.{Change, Expanded, Sliced, Truncated, Padded, Wrapped, HasUtf8Tail}
+use Rattle.ansi_columns.specs.declared.sides.Side.TheVariants.{End}
+use Rattle.ansi_columns.specs.Edits.{Expanded, Sliced, Truncated}
+use Rattle.ansi_view_runs.specs.Edits.{Change, OnColumns, Wrapped, HasUtf8Tail}
 use Rattle.ansi_view_runs.specs.Views.{Work}
-use Rattle.ansi_view_runs.specs.Words.{slice_of, truncate_of, change_named, change_asked, first_work, with_word, view_asked}
+use Rattle.ansi_view_runs.specs.Words.{padded_to, slice_of, truncate_of, change_named, change_asked, first_work, with_word, view_asked}
 
 -- both parts of a text at a colon
 
@@ -43,31 +45,31 @@ mapped f each (Some n) = each n
 tail-slice : (fields : List ℕ) → HasTail (slice_of fields)
 tail-slice fields = by (at_colon fields)
   where
-    ended : (start : ℕ) (o : Option (Option ℕ)) → HasTail (option_map (Sliced start) o)
+    ended : (start : ℕ) (o : Option (Option ℕ)) → HasTail (option_map (λ end. OnColumns (Sliced start end)) o)
     ended start None = tt
     ended start (Some end) = tt
 
-    begun : (f : List ℕ × List ℕ) (o : Option ℕ) → HasTail (option_and_then (λ start. option_map (Sliced start) (end_of f.1)) o)
+    begun : (f : List ℕ × List ℕ) (o : Option ℕ) → HasTail (option_and_then (λ start. option_map (λ end. OnColumns (Sliced start end)) (end_of f.1)) o)
     begun f None = tt
     begun f (Some start) = ended start (end_of f.1)
 
-    by : (o : Option (List ℕ × List ℕ)) → HasTail (option_and_then (λ (f : List ℕ × List ℕ). option_and_then (λ start. option_map (Sliced start) (end_of f.1)) (field_number f.0)) o)
+    by : (o : Option (List ℕ × List ℕ)) → HasTail (option_and_then (λ (f : List ℕ × List ℕ). option_and_then (λ start. option_map (λ end. OnColumns (Sliced start end)) (end_of f.1)) (field_number f.0)) o)
     by None = tt
     by (Some f) = begun f (field_number f.0)
 
 tail-truncate : (fields : List ℕ) → IsUtf8 fields → HasTail (truncate_of fields)
 tail-truncate fields utf8 = by (at_colon fields) (utf8-at_colon fields utf8)
   where
-    by : (o : Option (List ℕ × List ℕ)) → BothUtf8 o → HasTail (let f = unwrap_or o (fields, []) in option_map (λ width. Truncated width f.1) (field_number f.0))
-    by None both = mapped (λ width. Truncated width []) (λ n. IsUtf8-nil) (field_number fields)
-    by (Some f) both = mapped (λ width. Truncated width f.1) (λ n. both.1) (field_number f.0)
+    by : (o : Option (List ℕ × List ℕ)) → BothUtf8 o → HasTail (let f = unwrap_or o (fields, []) in option_map (λ width. OnColumns (Truncated End width f.1)) (field_number f.0))
+    by None both = mapped (λ width. OnColumns (Truncated End width [])) (λ n. IsUtf8-nil) (field_number fields)
+    by (Some f) both = mapped (λ width. OnColumns (Truncated End width f.1)) (λ n. both.1) (field_number f.0)
 
 tail-named : (name field : List ℕ) → IsUtf8 field → HasTail (change_named name field)
 tail-named name field utf8 =
-    cond_both (bytes_eq name (codes "expand")) (option_map Expanded (field_number field)) _ HasTail (λ is. mapped Expanded (λ n. tt) (field_number field)) (λ other.
+    cond_both (bytes_eq name (codes "expand")) (option_map (λ stop. OnColumns (Expanded stop)) (field_number field)) _ HasTail (λ is. mapped (λ stop. OnColumns (Expanded stop)) (λ n. tt) (field_number field)) (λ other.
     cond_both (bytes_eq name (codes "slice")) (slice_of field) _ HasTail (λ is. tail-slice field) (λ other.
     cond_both (bytes_eq name (codes "truncate")) (truncate_of field) _ HasTail (λ is. tail-truncate field utf8) (λ other.
-    cond_both (bytes_eq name (codes "pad")) (option_map Padded (field_number field)) _ HasTail (λ is. mapped Padded (λ n. tt) (field_number field)) (λ other.
+    cond_both (bytes_eq name (codes "pad")) (option_map padded_to (field_number field)) _ HasTail (λ is. mapped padded_to (λ n. tt) (field_number field)) (λ other.
     cond_both (bytes_eq name (codes "wrap")) (option_map Wrapped (field_number field)) None HasTail (λ is. mapped Wrapped (λ n. tt) (field_number field)) (λ other. tt)))))
 
 tail-asked : (word : List ℕ) → IsUtf8 word → HasTail (change_asked word)

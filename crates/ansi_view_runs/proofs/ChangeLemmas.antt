@@ -6,31 +6,23 @@ use Rattle.std.proofs.lemmas.Grind.{flat_map-append}
 use Rattle.std.proofs.lemmas.List.Elements.{All-from_recursion, recursion_from_All}
 use Rattle.std.proofs.lemmas.Str.{IsUtf8-append}
 use Rattle.ansi_items.specs.Pieces.{spelling, pieces_of}
-use Rattle.ansi_items.specs.Plain.{plain}
 use Rattle.ansi_items.proofs.JoinLemmas.{spelled, spelled-pieces_of}
 use Rattle.ansi_safe.specs.declared.policy.Links.TheVariants.{Keep}
-use Rattle.ansi_safe.specs.Cells.{cell}
 use Rattle.ansi_safe.specs.Links.{IsClosed}
 use Rattle.ansi_safe.specs.Safe.{is_safe}
-use Rattle.ansi_safe.proofs.CellTextLemmas.{IsUtf8-cell, whole-cell}
 use Rattle.ansi_safe.proofs.MadeLemmas.{whole-safe}
 use Rattle.ansi_safe.proofs.SafeLemmas.{AreGood-append, good_are_safe}
-use Rattle.ansi_columns.specs.declared.shown.Alignment.TheVariants.{Left}
-use Rattle.ansi_columns.specs.Columns.{columns}
+use Rattle.ansi_columns.specs.Edits as columns
 use Rattle.ansi_columns.specs.OneLine.{is_one_line}
-use Rattle.ansi_columns.specs.Shown.{closed_cell}
 use Rattle.ansi_columns.specs.Wrapped.{CarriedPart, wrapped}
 use Rattle.ansi_columns.proofs.CleanLineLemmas.{CleanLine, clean-wrapped}
-use Rattle.ansi_columns.proofs.CleanShownLemmas.{clean-padded_cell, clean-sliced_cell}
+use Rattle.ansi_columns.proofs.EditLemmas.{shown-changed}
 use Rattle.ansi_columns.proofs.IndentLawLemmas.{ShutLine, shut-append, wrapped_are_shut}
 use Rattle.ansi_columns.proofs.OneLineLemmas.{IsClean, clean-safe, clean-one_line, safe_are_good, safe-paragraph}
-use Rattle.ansi_columns.proofs.SliceLawLemmas.{sliced-closed}
-use Rattle.ansi_columns.proofs.StyledLawLemmas.{padded-is_closed}
-use Rattle.ansi_columns.proofs.TailLemmas.{shown-cell, shown-truncated}
-use Rattle.ansi_view_runs.specs.Edits.{Change, Expanded, Sliced, Truncated, Padded, Wrapped, HasUtf8Tail, is_expansion, changed, changed_in_turn}
+use Rattle.ansi_columns.proofs.SequenceLemmas.{good-utf8}
+use Rattle.ansi_view_runs.specs.Edits.{Change, OnColumns, Wrapped, HasUtf8Tail, is_expansion, changed, changed_in_turn}
 use Rattle.ansi_view_runs.specs.SafeTexts.{IsSafeText}
 use Rattle.ansi_view_runs.proofs.ExpandedLemmas.{safe-expanded}
-use Rattle.ansi_view_runs.proofs.SequenceLemmas.{good-utf8}
 
 abbrev AreSafeTexts : List (List ℕ) → Type 0
 AreSafeTexts ts = AllByRecursion IsSafeText ts
@@ -57,15 +49,7 @@ made-wrapped t width utf8 =
     made-lines ls (recursion_from_All CleanLine ls (clean-wrapped t width utf8)) (recursion_from_All ShutLine ls (wrapped_are_shut t width (safe-paragraph t utf8)))
 
 made-changed : (change : Change) (t : List ℕ) → HasUtf8Tail change → IsUtf8 t → is_expansion change ≡ false → AllByRecursion IsMade (changed change t)
-made-changed (Expanded stop) t tail utf8 other = absurd (cc other)
-made-changed (Sliced start end) t tail utf8 other =
-    let b = unwrap_or end (columns (plain (cell t))) in
-    (record { clean = clean-sliced_cell t start b utf8; closed = sliced-closed (cell t) start b (IsUtf8-cell t utf8) (whole-cell t utf8) }, tt)
-made-changed (Truncated width tail) t tail_utf8 utf8 other =
-    let shown = shown-truncated t utf8 width (closed_cell tail) (shown-cell tail tail_utf8) in
-    (record { clean = shown.clean; closed = shown.shut.closed }, tt)
-made-changed (Padded width) t tail utf8 other =
-    (record { clean = clean-padded_cell t width Left utf8; closed = padded-is_closed (cell t) width Left (whole-cell t utf8) }, tt)
+made-changed (OnColumns change) t tail utf8 other = (let shown = shown-changed t utf8 change tail other in (record { clean = shown.clean; closed = shown.shut.closed }, tt))
 made-changed (Wrapped width) t tail utf8 other = made-wrapped t width utf8
 
 -- ---- so what a change makes of a safe text is safe
@@ -78,10 +62,11 @@ safe-made : (change : Change) (t : List ℕ) → HasUtf8Tail change → IsUtf8 t
 safe-made change t tail utf8 other = all-weaker made-safe (changed change t) (made-changed change t tail utf8 other)
 
 safe-changed : (change : Change) (t : List ℕ) → HasUtf8Tail change → IsSafeText t → AreSafeTexts (changed change t)
-safe-changed (Expanded stop) t tail is = (safe-expanded stop t is, tt)
-safe-changed (Sliced start end) t tail is = safe-made (Sliced start end) t tail is.utf8 refl
-safe-changed (Truncated width tail) t tail_utf8 is = safe-made (Truncated width tail) t tail_utf8 is.utf8 refl
-safe-changed (Padded width) t tail is = safe-made (Padded width) t tail is.utf8 refl
+safe-changed (OnColumns (columns.Expanded stop)) t tail is = (safe-expanded stop t is, tt)
+safe-changed (OnColumns (columns.Sliced start end)) t tail is = safe-made (OnColumns (columns.Sliced start end)) t tail is.utf8 refl
+safe-changed (OnColumns (columns.Truncated side width cut)) t tail is = safe-made (OnColumns (columns.Truncated side width cut)) t tail is.utf8 refl
+safe-changed (OnColumns (columns.Padded width alignment)) t tail is = safe-made (OnColumns (columns.Padded width alignment)) t tail is.utf8 refl
+safe-changed (OnColumns (columns.Fitted width alignment cut)) t tail is = safe-made (OnColumns (columns.Fitted width alignment cut)) t tail is.utf8 refl
 safe-changed (Wrapped width) t tail is = safe-made (Wrapped width) t tail is.utf8 refl
 
 all-append : (ts us : List (List ℕ)) → AreSafeTexts ts → AreSafeTexts us → AreSafeTexts (ts ++ us)

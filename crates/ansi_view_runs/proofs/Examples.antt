@@ -3,7 +3,10 @@ use Rattle.std.proofs.Common.{◌≡◌, [], ◌∷◌, true, false, Some, None,
 use Rattle.std.specs.Prelude.{codes}
 use Rattle.ansi_safe.specs.declared.policy.Links.TheVariants.{Keep, Remove}
 use Rattle.ansi_safe.specs.declared.policy.Rest.TheVariants.{Drop, Show}
-use Rattle.ansi_view_runs.specs.Edits.{Expanded, Sliced, Truncated, Padded, Wrapped}
+use Rattle.ansi_columns.specs.declared.shown.Alignment.TheVariants.{Left}
+use Rattle.ansi_columns.specs.declared.sides.Side.TheVariants.{End}
+use Rattle.ansi_columns.specs.Edits.{Expanded, Sliced, Truncated, Padded}
+use Rattle.ansi_view_runs.specs.Edits.{OnColumns, Wrapped}
 use Rattle.ansi_view_runs.specs.Lines.{lines}
 use Rattle.ansi_view_runs.specs.Views.{viewed, opening_after}
 use Rattle.ansi_view_runs.specs.Words.{bad_word, view_asked}
@@ -42,7 +45,7 @@ view_asked-none = refl
 pub view_asked-changes : view_asked (codes "truncate:80:.:" ∷ codes "plain" ∷ codes "slice:007:" ∷ codes "truncate:5" ∷ codes "slice:1:2" ∷ codes "wrap:0" ∷ codes "pad:3" ∷ codes "expand:8" ∷ [])
     ≡ record {
       view = record { policy = record { rest = Drop; links = Remove }; plain = true };
-      changes = Truncated 80 (codes ".:") ∷ Sliced 7 None ∷ Truncated 5 [] ∷ Sliced 1 (Some 2) ∷ Wrapped 0 ∷ Padded 3 ∷ Expanded 8 ∷ [];
+      changes = OnColumns (Truncated End 80 (codes ".:")) ∷ OnColumns (Sliced 7 None) ∷ OnColumns (Truncated End 5 []) ∷ OnColumns (Sliced 1 (Some 2)) ∷ Wrapped 0 ∷ OnColumns (Padded 3 Left) ∷ OnColumns (Expanded 8) ∷ [];
     }
 view_asked-changes = refl
 

@@ -29,9 +29,9 @@ use Rattle.ansi_columns.specs.Shown.{blanks}
 use Rattle.ansi_columns.specs.Tabs.{since_stop, to_next, run_expanded, pieces_expanded, expanded}
 use Rattle.ansi_columns.proofs.AsciiLemmas.{All-printable_is_ascii}
 use Rattle.ansi_columns.proofs.OneLineLemmas.{safe_are_good}
+use Rattle.ansi_columns.proofs.SequenceLemmas.{good-utf8}
 use Rattle.ansi_columns.proofs.ShownLawLemmas.{blanks_are_printable}
 use Rattle.ansi_view_runs.specs.SafeTexts.{IsSafeText}
-use Rattle.ansi_view_runs.proofs.SequenceLemmas.{good-utf8}
 
 -- ---- the characters of a run: a TAB becomes blanks, and any other stays
 

@@ -5,7 +5,6 @@ pub mod Shown
 pub mod Viewed
 pub mod StayLemmas
 pub mod JoinLemmas
-pub mod SequenceLemmas
 pub mod ExpandedLemmas
 pub mod ChangeLemmas
 pub mod AskedLemmas

@@ -7,26 +7,33 @@ use Rattle.ansi_safe.specs.declared.policy.Links.TheVariants.{Keep, Remove}
 use Rattle.ansi_safe.specs.declared.policy.Rest.TheVariants.{Drop, Show}
 use Rattle.ansi_safe.specs.Sanitized.{sanitized}
 use Rattle.ansi_lines_runs.specs.Words.{at_colon, field_number, end_of}
-use Rattle.ansi_view_runs.specs.Edits.{Change, Expanded, Sliced, Truncated, Padded, Wrapped}
+use Rattle.ansi_columns.specs.declared.shown.Alignment.TheVariants.{Left}
+use Rattle.ansi_columns.specs.declared.sides.Side.TheVariants.{End}
+use Rattle.ansi_columns.specs.Edits.{Expanded, Sliced, Truncated, Padded}
+use Rattle.ansi_view_runs.specs.Edits.{Change, OnColumns, Wrapped}
 use Rattle.ansi_view_runs.specs.Views.{Work}
 
 -- a slice has a start and an end, with a colon between them
 abbrev pub slice_of : List ℕ → Option Change
-slice_of fields = option_and_then (λ (f : List ℕ × List ℕ). option_and_then (λ start. option_map (Sliced start) (end_of f.1)) (field_number f.0)) (at_colon fields)
+slice_of fields = option_and_then (λ (f : List ℕ × List ℕ). option_and_then (λ start. option_map (λ end. OnColumns (Sliced start end)) (end_of f.1)) (field_number f.0)) (at_colon fields)
 
 -- a truncation has a width and, after a colon, any tail; without a colon the tail is empty
 abbrev pub truncate_of : List ℕ → Option Change
 truncate_of fields =
     let f = unwrap_or (at_colon fields) (fields, []) in
-    option_map (λ width. Truncated width f.1) (field_number f.0)
+    option_map (λ width. OnColumns (Truncated End width f.1)) (field_number f.0)
+
+-- blanks follow a text that is padded
+abbrev pub padded_to : ℕ → Change
+padded_to width = OnColumns (Padded width Left)
 
 -- what a name asks for, with the field after its colon
 abbrev pub change_named : List ℕ → List ℕ → Option Change
 change_named name field =
-    if bytes_eq name (codes "expand") then option_map Expanded (field_number field)
+    if bytes_eq name (codes "expand") then option_map (λ stop. OnColumns (Expanded stop)) (field_number field)
     else if bytes_eq name (codes "slice") then slice_of field
     else if bytes_eq name (codes "truncate") then truncate_of field
-    else if bytes_eq name (codes "pad") then option_map Padded (field_number field)
+    else if bytes_eq name (codes "pad") then option_map padded_to (field_number field)
     else if bytes_eq name (codes "wrap") then option_map Wrapped (field_number field)
     else None
 

@@ -1,30 +1,21 @@
-//! Edits of a line by columns.
-ghost use Rattle.std.specs.Prelude.{◌≡◌, [], ◌∷◌, ◌++◌, IfOk, OnOk, false, map, string_bytes};
+//! Edits of a line by columns, and wraps.
+ghost use Rattle.std.specs.Prelude.{◌≡◌, ◌++◌, IfOk, OnOk, map, string_bytes};
 ghost use Rattle.std.specs.Cow.{cow_str_bytes};
 ghost use Rattle.std.specs.List.{flat_map};
 ghost use Rattle.ansi_columns.specs.Wrapped.{wrapped};
 ghost use Rattle.ansi_lines_runs.specs.Runs.{words_of};
 ghost use Rattle.ansi_view_runs.specs.Edits.{change_of, changes_of, changed, changed_in_turn};
-ghost use Rattle.ansi_view_runs.specs.Edits.{is_wrap};
 
-use ansi_columns::shown::{Alignment, pad, truncate};
-use ansi_columns::slices::slice;
-use ansi_columns::tabs::expand_tabs;
+use ansi_columns::edits::{ColumnEdit, edit_column};
 use ansi_columns::wrap::wrap;
 use std::alloc::{AllocError, Allocator};
 use std::borrow::CowStr;
 
-/// An edit of a line by the columns of a terminal. (`ansi_columns`.)
-#[derive(Debug, Clone, Copy, PartialEq, Eq)]
-pub enum ColumnEdit<'w> {
-    /// Each TAB becomes blanks up to the next multiple of this many columns.
-    Expand(usize),
-    /// The columns from `start` up to `end`, or to the last one, stay. The first column is 0.
-    Slice { start: usize, end: Option<usize> },
-    /// A text of more than `width` columns is cut, and `tail` follows it.
-    Truncate { width: usize, tail: &'w str },
-    /// A text of fewer columns is followed by blanks.
-    Pad(usize),
+/// An edit of a line: by the columns of a terminal, or into lines.
+#[derive(Clone, Copy)]
+pub enum LineEdit<'w> {
+    /// One text is made of one. (`ansi_columns`.)
+    Columns(ColumnEdit<'w>),
     /// The text is broken into lines of at most this many columns.
     Wrap(usize),
 }
@@ -34,7 +25,7 @@ pub enum ColumnEdit<'w> {
 /// One text becomes one, or with a `Wrap` one or more. `Err` means out of memory. (Own.)
 pub fn edit_in_turn<A: Allocator + Copy>(
     alloc: A,
-    edits: &[ColumnEdit<'_>],
+    edits: &[LineEdit<'_>],
     text: String<A>,
 ) -> Result<Vec<String<A>, A>, AllocError>
     ensures texts { IfOk result (λ made. words_of made.items
@@ -53,51 +44,28 @@ pub fn edit_in_turn<A: Allocator + Copy>(
 /// A text that no edit changes is passed on. `Err` means out of memory. (Own.)
 pub(crate) fn edit_up_to_wrap<'t, 'e, 'w, A: Allocator + Copy>(
     alloc: A,
-    edits: &'e [ColumnEdit<'w>],
+    edits: &'e [LineEdit<'w>],
     text: CowStr<'t, A>,
-) -> Result<(CowStr<'t, A>, &'e [ColumnEdit<'w>]), AllocError>
+) -> Result<(CowStr<'t, A>, &'e [LineEdit<'w>]), AllocError>
     ensures { IfOk result (λ made. changed_in_turn (changes_of edits.now) (cow_str_bytes text.entry)
         ≡ changed_in_turn (changes_of made.1.now) (cow_str_bytes made.0)) }
 {
     let mut edited = text;
     let mut left = edits;
     while let [edit, more @ ..] = left {
-        if matches!(edit, ColumnEdit::Wrap(_)) {
+        let LineEdit::Columns(edit) = edit else {
             return Ok((edited, left));
-        }
-        edited = edit_again(alloc, edit, edited)?;
+        };
+        edited = edit_column(alloc, edit, edited)?;
         left = more;
     }
     Ok((edited, left))
 }
 
-// What an edit makes of a text, if it isn't a wrap. It may borrow from what the text borrows, and an
-// owned text that it keeps is passed on.
-fn edit_again<'t, A: Allocator + Copy>(
-    alloc: A,
-    edit: &ColumnEdit<'_>,
-    text: CowStr<'t, A>,
-) -> Result<CowStr<'t, A>, AllocError>
-    requires { is_wrap (change_of edit.now) ≡ false }
-    ensures { IfOk result (λ c.
-        changed (change_of edit.now) (cow_str_bytes text.entry) ≡ cow_str_bytes c ∷ []) }
-{
-    match text {
-        CowStr::Borrowed(text) => edit_whole(alloc, edit, text),
-        CowStr::Owned(text) => {
-            let edited = match edit_whole(alloc, edit, text.as_str())? {
-                CowStr::Borrowed(kept) if kept == text.as_str() => None,
-                edited => Some(edited.into_owned(alloc)?),
-            };
-            Ok(CowStr::Owned(edited.unwrap_or(text)))
-        }
-    }
-}
-
 // What an edit makes of each text.
 fn edit_each<A: Allocator + Copy>(
     alloc: A,
-    edit: &ColumnEdit<'_>,
+    edit: &LineEdit<'_>,
     texts: &[String<A>],
 ) -> Result<Vec<String<A>, A>, AllocError>
     ensures { IfOk result (λ made. words_of made.items
@@ -113,37 +81,20 @@ fn edit_each<A: Allocator + Copy>(
 // Appends what an edit makes of a text.
 fn push_edited<A: Allocator + Copy>(
     alloc: A,
-    edit: &ColumnEdit<'_>,
+    edit: &LineEdit<'_>,
     text: &str,
     made: &mut Vec<String<A>, A>,
 ) -> Result<(), AllocError>
     ensures { OnOk result (words_of made.new.items
         ≡ words_of made.old.items ++ changed (change_of edit.now) text.now) }
 {
-    if let ColumnEdit::Wrap(width) = *edit {
-        return push_wrapped(alloc, text, width, made);
-    }
-    let edited = edit_whole(alloc, edit, text)?;
-    made.push(edited.into_owned(alloc)?)?;
-    Ok(())
-}
-
-// What an edit makes of a text, if it isn't a wrap. It may borrow from the text.
-fn edit_whole<'t, A: Allocator + Copy>(
-    alloc: A,
-    edit: &ColumnEdit<'_>,
-    text: &'t str,
-) -> Result<CowStr<'t, A>, AllocError>
-    requires { is_wrap (change_of edit.now) ≡ false }
-    ensures { IfOk result (λ c.
-        changed (change_of edit.now) text.now ≡ cow_str_bytes c ∷ []) }
-{
-    match *edit {
-        ColumnEdit::Expand(stop) => expand_tabs(alloc, text, stop),
-        ColumnEdit::Slice { start, end } => slice(alloc, text, start, end),
-        ColumnEdit::Truncate { width, tail } => truncate(alloc, text, width, tail),
-        ColumnEdit::Pad(width) => pad(alloc, text, width, Alignment::Left),
-        ColumnEdit::Wrap(_) => unreachable!(),
+    match edit {
+        LineEdit::Columns(edit) => {
+            let edited = edit_column(alloc, edit, CowStr::Borrowed(text))?;
+            made.push(edited.into_owned(alloc)?)?;
+            Ok(())
+        }
+        LineEdit::Wrap(width) => push_wrapped(alloc, text, *width, made),
     }
 }
 

@@ -6,7 +6,7 @@ ghost use Rattle.ansi_lines_runs.specs.Runs.{words_of};
 ghost use Rattle.ansi_view_runs.specs.Edits.{Wrapped, changes_of, changed};
 ghost use Rattle.ansi_view_runs.specs.Views.{changed_line, line_break};
 
-use crate::edits::{ColumnEdit, edit_in_turn, edit_up_to_wrap};
+use crate::edits::{LineEdit, edit_in_turn, edit_up_to_wrap};
 use ansi_columns::wrap::{PushNext, has_next, wrap};
 use std::alloc::{AllocError, Allocator};
 use std::borrow::CowStr;
@@ -15,7 +15,7 @@ use std::borrow::CowStr;
 /// memory.
 pub(crate) fn edit_line<A: Allocator + Copy>(
     alloc: A,
-    edits: &[ColumnEdit<'_>],
+    edits: &[LineEdit<'_>],
     text: CowStr<'_, A>,
     end: &str,
 ) -> Result<String<A>, AllocError>
@@ -29,7 +29,7 @@ pub(crate) fn edit_line<A: Allocator + Copy>(
 /// Like `edit_line`, of a text that may be owned.
 pub(crate) fn edit_further<A: Allocator + Copy>(
     alloc: A,
-    edits: &[ColumnEdit<'_>],
+    edits: &[LineEdit<'_>],
     text: CowStr<'_, A>,
     end: &str,
 ) -> Result<String<A>, AllocError>
@@ -39,7 +39,7 @@ pub(crate) fn edit_further<A: Allocator + Copy>(
     if edits.is_empty() {
         return end_text(alloc, text, end);
     }
-    if let [ColumnEdit::Wrap(width)] = edits {
+    if let [LineEdit::Wrap(width)] = edits {
         return wrap_line(alloc, text.as_str(), *width, end);
     }
     let texts = edit_in_turn(alloc, edits, text.into_owned(alloc)?)?;

@@ -17,7 +17,7 @@ ghost use Rattle.ansi_view_runs.specs.Stops.{message_of};
 ghost use Rattle.ansi_view_runs.specs.Views.{changed_line, decoded, opening_after, viewed};
 ghost use Rattle.ansi_view_runs.specs.Words.{bad_word, message_of_word, view_asked};
 
-use crate::edits::{ColumnEdit, edit_up_to_wrap};
+use crate::edits::{LineEdit, edit_up_to_wrap};
 use crate::ended::{edit_further, end_text};
 use crate::lines::{Line, split_first};
 use crate::stop::{OUT_OF_MEMORY, Stop, write_message};
@@ -120,7 +120,7 @@ fn write_text<A: Allocator + Copy, W: Sink>(
 #[inline(always)]
 fn write_edited<A: Allocator + Copy, W: Sink>(
     alloc: A,
-    edits: &[ColumnEdit<'_>],
+    edits: &[LineEdit<'_>],
     text: CowStr<'_, A>,
     end: &str,
     read: &[u8],

@@ -15,7 +15,7 @@ ghost use Rattle.ansi_view_runs.specs.Views.{decoded, opening_of, opening_after,
 ghost use Rattle.ansi_view_runs.specs.Views.{shown};
 ghost use Rattle.ansi_safe.specs.Sanitized.{cleaned, sanitized};
 
-use crate::edits::ColumnEdit;
+use crate::edits::LineEdit;
 use crate::ended::edit_line;
 use crate::lines::Line;
 use ansi_safe::links::{LONGEST_ENDING, Pen, pen_after};
@@ -43,7 +43,7 @@ pub struct Job<'w, A: Allocator> {
     /// How each line is made safe.
     pub view: View,
     /// What is made of it then. The tails are borrowed from the words.
-    pub edits: Vec<ColumnEdit<'w>, A>,
+    pub edits: Vec<LineEdit<'w>, A>,
 }
 
 /// The bytes that a line becomes, with its end. A line may become several. `text` is what its text

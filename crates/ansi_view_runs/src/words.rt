@@ -5,10 +5,11 @@ ghost use Rattle.ansi_lines_runs.specs.Runs.{words_of};
 ghost use Rattle.ansi_view_runs.specs.Edits.{change_of};
 ghost use Rattle.ansi_view_runs.specs.Jobs.{work_of};
 ghost use Rattle.ansi_view_runs.specs.Words.{bad_word, change_asked, change_named, slice_of};
-ghost use Rattle.ansi_view_runs.specs.Words.{truncate_of, view_asked};
+ghost use Rattle.ansi_view_runs.specs.Words.{padded_to, truncate_of, view_asked};
 
-use crate::edits::ColumnEdit;
+use crate::edits::LineEdit;
 use crate::view::{Job, View};
+use ansi_columns::{Alignment, ColumnEdit, Side};
 use ansi_lines_runs::words::{parse_end, parse_number};
 use ansi_safe::policy::{Links, Policy, Rest};
 use std::alloc::{AllocError, Allocator};
@@ -51,7 +52,7 @@ pub fn parse<'w, A: Allocator>(
 }
 
 // The edit that a word asks for.
-fn parse_edit(word: &str) -> Option<ColumnEdit<'_>>
+fn parse_edit(word: &str) -> Option<LineEdit<'_>>
     ensures { option_map change_of result ≡ change_asked word.now }
 {
     let (name, field) = word.split_once(':')?;
@@ -59,34 +60,49 @@ fn parse_edit(word: &str) -> Option<ColumnEdit<'_>>
 }
 
 // The edit of this name. The field is the text after the name's colon.
-fn parse_named<'w>(name: &str, field: &'w str) -> Option<ColumnEdit<'w>>
+fn parse_named<'w>(name: &str, field: &'w str) -> Option<LineEdit<'w>>
     ensures { option_map change_of result ≡ change_named name.now field.now }
 {
     match name {
-        "expand" => Some(ColumnEdit::Expand(parse_number(field)?)),
+        "expand" => Some(LineEdit::Columns(ColumnEdit::Expand(parse_number(field)?))),
         "slice" => parse_slice(field),
         "truncate" => parse_truncate(field),
-        "pad" => Some(ColumnEdit::Pad(parse_number(field)?)),
-        "wrap" => Some(ColumnEdit::Wrap(parse_number(field)?)),
+        "pad" => Some(left_pad(parse_number(field)?)),
+        "wrap" => Some(LineEdit::Wrap(parse_number(field)?)),
         _ => None,
     }
 }
 
 // The slice with this start and this end: `A:B`.
-fn parse_slice(fields: &str) -> Option<ColumnEdit<'_>>
+fn parse_slice(fields: &str) -> Option<LineEdit<'_>>
     ensures { option_map change_of result ≡ slice_of fields.now }
 {
     let (start, end) = fields.split_once(':')?;
     let start = parse_number(start)?;
     let end = parse_end(end)?;
-    Some(ColumnEdit::Slice { start, end })
+    Some(LineEdit::Columns(ColumnEdit::Slice { start, end }))
 }
 
 // The truncation to this width, with this tail: `N`, or `N:TAIL`. The tail may contain colons.
-fn parse_truncate(fields: &str) -> Option<ColumnEdit<'_>>
+fn parse_truncate(fields: &str) -> Option<LineEdit<'_>>
     ensures { option_map change_of result ≡ truncate_of fields.now }
 {
     let (width, tail) = fields.split_once(':').unwrap_or((fields, ""));
     let width = parse_number(width)?;
-    Some(ColumnEdit::Truncate { width, tail })
+    let cut = ColumnEdit::Truncate {
+        width,
+        tail,
+        side: Side::End,
+    };
+    Some(LineEdit::Columns(cut))
+}
+
+// The padding to this width: blanks follow the text.
+fn left_pad<'w>(width: usize) -> LineEdit<'w>
+    ensures { change_of result ≡ padded_to width }
+{
+    LineEdit::Columns(ColumnEdit::Pad {
+        width,
+        alignment: Alignment::Left,
+    })
 }

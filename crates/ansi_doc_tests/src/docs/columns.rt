@@ -1,5 +1,6 @@
 //! The examples of the docs of `ansi_columns`, in the same words.
 use ansi_columns::addresses::link_at;
+use ansi_columns::edits::edit_columns;
 use ansi_columns::fit::fit;
 use ansi_columns::lines::Lines;
 use ansi_columns::shown::{pad, truncate};
@@ -8,7 +9,7 @@ use ansi_columns::slices::slice;
 use ansi_columns::tabs::expand_tabs;
 use ansi_columns::wrap::indents::wrap_with;
 use ansi_columns::wrap::{has_next, wrap};
-use ansi_columns::{Alignment, AnsiColumns, Side, Truncation, Wrap};
+use ansi_columns::{Alignment, AnsiColumns, ColumnEdit, Side, Truncation, Wrap};
 use std::test::Fail;
 
 #[test]
@@ -85,6 +86,33 @@ fn truncation_example(rt: HostRuntime) -> Result<(), Fail> {
     let to = Truncation::to(6).tail("…").side(Side::Start);
     let cut = "/usr/local/bin".ansi_truncate_with(rt.alloc(), &to)?;
     assert!(rt; cut.as_str() == "…l/bin");
+    Ok(())
+}
+
+#[test]
+fn column_edit_example(rt: HostRuntime) -> Result<(), Fail> {
+    let slice = ColumnEdit::Slice {
+        start: 2,
+        end: None,
+    };
+    let edits = [ColumnEdit::Expand(4), slice];
+    assert!(rt; edit_columns(rt.alloc(), "a\tbc", &edits)?.as_str() == "  bc");
+    Ok(())
+}
+
+#[test]
+fn edit_columns_example(rt: HostRuntime) -> Result<(), Fail> {
+    let cut = ColumnEdit::Truncate {
+        width: 4,
+        tail: "…",
+        side: Side::End,
+    };
+    let pad = ColumnEdit::Pad {
+        width: 6,
+        alignment: Alignment::Right,
+    };
+    let cell = edit_columns(rt.alloc(), "\x1b[31m日本語\x1b[39m", &[cut, pad])?;
+    assert!(rt; cell.as_str() == "   \x1b[31m日\x1b[39m…");
     Ok(())
 }
 

@@ -1,0 +1,15 @@
+use Rattle.std.proofs.Common.{◌↔◌, length}
+use Rattle.std.specs.Cow.{cow_str_bytes, IsBorrowedStr}
+use Rattle.ansi_columns.specs.Edits.{changes_of, AreLent}
+use Rattle.ansi_columns.proofs.EditLemmas.{IsEditing}
+use Rattle.ansi_columns.proofs.edits.edit_columns.Given as goal
+
+-- the edits that are left make of the text so far what all make of the text, and lend what all lend
+abbrev pub invariant-edits : goal.invariant-edits
+invariant-edits g l = record {
+  editing : IsEditing (changes_of l.edits) l.text (changes_of l.left) (cow_str_bytes l.edited);
+  lent : (IsBorrowedStr l.edited × AreLent (changes_of l.left) (cow_str_bytes l.edited)) ↔ AreLent (changes_of l.edits) l.text;
+}
+
+abbrev pub decreases-edits : goal.decreases-edits
+decreases-edits g l = length l.left

@@ -1,0 +1,186 @@
+//! Edits of a text by columns, one after another.
+ghost use Rattle.std.specs.Prelude.{◌≡◌, ◌↔◌, false, IfOk, IsTrue};
+ghost use Rattle.std.specs.Cow.{cow_str_bytes, IsBorrowedStr};
+ghost use Rattle.std.specs.Str.{IsUtf8};
+ghost use Rattle.ansi_safe.specs.Links.{IsClosed};
+ghost use Rattle.ansi_safe.specs.Safe.{is_safe};
+ghost use Rattle.ansi_safe.specs.declared.policy.Links.TheVariants.{Keep};
+ghost use Rattle.ansi_columns.specs.Edits.{change_of, changes_of, only_expand, HasUtf8Tail};
+ghost use Rattle.ansi_columns.specs.Edits.{changed, edited, edited_row, IsLent, IsLentEdited};
+ghost use Rattle.ansi_columns.specs.OneLine.{is_one_line};
+ghost use Rattle.ansi_columns.specs.Rows.{row_screen};
+ghost use Rattle.ansi_columns.specs.Screens.{screen};
+
+use crate::fit::fit;
+use crate::shown::{Alignment, pad};
+use crate::sides::{Side, Truncation, truncate_with};
+use crate::slices::slice;
+use crate::tabs::expand_tabs;
+use std::alloc::{AllocError, Allocator};
+use std::borrow::CowStr;
+
+/// An edit of a text by the columns of a terminal. [`edit_columns`] makes a list of them in turn.
+///
+/// ```
+/// let slice = ColumnEdit::Slice {
+///     start: 2,
+///     end: None,
+/// };
+/// let edits = [ColumnEdit::Expand(4), slice];
+/// assert!(rt; edit_columns(rt.alloc(), "a\tbc", &edits)?.as_str() == "  bc");
+/// ```
+#[derive(Clone, Copy)]
+pub enum ColumnEdit<'a> {
+    /// Each TAB becomes blanks up to the next multiple of this many columns, as
+    /// `AnsiColumns::ansi_expand_tabs` does it. After any other edit a text has no TAB.
+    Expand(usize),
+    /// The columns from `start` up to `end`, or to the last one, stay. The first column is 0.
+    Slice {
+        start: usize,
+        end: Option<usize>,
+    },
+    /// A text of more than `width` columns is cut at a side of it, with a tail where it is cut.
+    Truncate {
+        width: usize,
+        tail: &'a str,
+        side: Side,
+    },
+    /// A text of fewer than `width` columns gets blanks.
+    Pad {
+        width: usize,
+        alignment: Alignment,
+    },
+    /// A text is truncated to `width` columns, and then padded to them.
+    Fit {
+        width: usize,
+        alignment: Alignment,
+        tail: &'a str,
+    },
+}
+
+/// The text after the edits in turn, ready for display: safe, on one line, and with nothing open.
+///
+/// Each edit is made as the call of its name makes it, of what the edit before made. Then the text
+/// is the text of a cell (`ansi_safe::cells::cell_of`), and the link and the style still open are
+/// closed; after any edit but an expansion it is that already. So without an edit the result is the
+/// text of a cell, closed. What is shown is what the edits make of the text's columns.
+///
+/// Returns a borrow if each edit leaves a stretch of the text as it is, and nothing has to be left
+/// out or closed. `Err` means out of memory. (Own.)
+///
+/// ```
+/// let cut = ColumnEdit::Truncate {
+///     width: 4,
+///     tail: "…",
+///     side: Side::End,
+/// };
+/// let pad = ColumnEdit::Pad {
+///     width: 6,
+///     alignment: Alignment::Right,
+/// };
+/// let cell = edit_columns(rt.alloc(), "\x1b[31m日本語\x1b[39m", &[cut, pad])?;
+/// assert!(rt; cell.as_str() == "   \x1b[31m日\x1b[39m…");
+/// ```
+pub fn edit_columns<'t, A: Allocator + Copy>(
+    alloc: A,
+    text: &'t str,
+    edits: &[ColumnEdit<'_>],
+) -> Result<CowStr<'t, A>, AllocError>
+    ensures bytes { IfOk result (λ c.
+        cow_str_bytes c ≡ edited (changes_of edits.now) text.now) }
+    ensures safe { IfOk result (λ c. IsTrue (is_safe Keep (cow_str_bytes c))) }
+    ensures one_line { IfOk result (λ c. IsTrue (is_one_line (cow_str_bytes c))) }
+    ensures closed { IfOk result (λ c. IsClosed (cow_str_bytes c)) }
+    ensures screen { IfOk result (λ c. screen (cow_str_bytes c)
+        ≡ row_screen (edited_row (changes_of edits.now) text.now)) }
+    ensures borrowed { IfOk result (λ c.
+        IsBorrowedStr c ↔ IsLentEdited (changes_of edits.now) text.now) }
+{
+    let mut edited = CowStr::Borrowed(text);
+    let mut left = edits;
+    'edits: while let [edit, more @ ..] = left {
+        edited = edit_column(alloc, edit, edited)?;
+        left = more;
+    }
+    if only_expand(edits) {
+        // It isn't too narrow, so its link and its style are closed, and it gets no blanks.
+        let close = ColumnEdit::Pad {
+            width: 0,
+            alignment: Alignment::Left,
+        };
+        return edit_column(alloc, &close, edited);
+    }
+    Ok(edited)
+}
+
+/// Whether each edit expands TABs, or there is none. Then the text may have anything still.
+fn only_expand(edits: &[ColumnEdit<'_>]) -> bool
+    ensures { result ≡ only_expand (changes_of edits.now) }
+{
+    let mut left = edits;
+    'edits: while let [edit, more @ ..] = left {
+        if !matches!(edit, ColumnEdit::Expand(_)) {
+            return false;
+        }
+        left = more;
+    }
+    true
+}
+
+/// What an edit makes of a text. Returns a borrow if the text is one and the edit leaves a stretch of
+/// it as it is; an owned text that stays is passed on. `Err` means out of memory. (Own.)
+pub fn edit_column<'t, A: Allocator + Copy>(
+    alloc: A,
+    edit: &ColumnEdit<'_>,
+    text: CowStr<'t, A>,
+) -> Result<CowStr<'t, A>, AllocError>
+    ensures bytes { IfOk result (λ c.
+        cow_str_bytes c ≡ changed (change_of edit.now) (cow_str_bytes text.entry)) }
+    ensures borrowed { IfOk result (λ c. IsBorrowedStr c ↔ (IsBorrowedStr text.entry
+        × IsLent (change_of edit.now) (cow_str_bytes text.entry))) }
+    ensures utf8 { IfOk result (λ c. IsUtf8 (cow_str_bytes text.entry)
+        × HasUtf8Tail (change_of edit.now)) }
+{
+    match text {
+        CowStr::Borrowed(text) => edit_text(alloc, edit, text),
+        CowStr::Owned(text) => {
+            let edited = match edit_text(alloc, edit, text.as_str())? {
+                CowStr::Borrowed(kept) if kept == text.as_str() => None,
+                edited => Some(edited.into_owned(alloc)?),
+            };
+            Ok(CowStr::Owned(edited.unwrap_or(text)))
+        }
+    }
+}
+
+/// What an edit makes of a text.
+fn edit_text<'t, A: Allocator + Copy>(
+    alloc: A,
+    edit: &ColumnEdit<'_>,
+    text: &'t str,
+) -> Result<CowStr<'t, A>, AllocError>
+    ensures bytes { IfOk result (λ c.
+        cow_str_bytes c ≡ changed (change_of edit.now) text.now) }
+    ensures borrowed { IfOk result (λ c.
+        IsBorrowedStr c ↔ IsLent (change_of edit.now) text.now) }
+    ensures utf8 { IfOk result (λ c. IsUtf8 text.now × HasUtf8Tail (change_of edit.now)) }
+{
+    match edit {
+        ColumnEdit::Expand(stop) => expand_tabs(alloc, text, *stop),
+        ColumnEdit::Slice { start, end } => slice(alloc, text, *start, *end),
+        ColumnEdit::Truncate { width, tail, side } => {
+            let to = Truncation {
+                width: *width,
+                tail: *tail,
+                side: *side,
+            };
+            truncate_with(alloc, text, &to)
+        }
+        ColumnEdit::Pad { width, alignment } => pad(alloc, text, *width, *alignment),
+        ColumnEdit::Fit {
+            width,
+            alignment,
+            tail,
+        } => fit(alloc, text, *width, *alignment, *tail),
+    }
+}
