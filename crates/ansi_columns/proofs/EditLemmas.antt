@@ -1,9 +1,10 @@
 -- What edits by columns make of a text in turn, and what that shows.
-use Rattle.std.proofs.Common.{◌≡◌, ℕ, ◌⊎◌, inl, inr, Bool, true, false, not, ◌-◌, ◌↔◌, ◌==◌, ◌&&◌, ◌||◌, List, [], ◌∷◌, ◌++◌, chars, unwrap_or, IsTrue, refl, sym, ◌∙◌, ap, subst, arith, if◌then◌else◌}
+use Rattle.std.proofs.Common.{◌≡◌, ℕ, ◌<◌, ◌≤◌, ◌⊎◌, inl, inr, Bool, true, false, not, ◌-◌, ◌↔◌, ◌==◌, ◌&&◌, ◌||◌, List, [], ◌∷◌, ◌++◌, length, get_or, take, drop, Result, Ok, Err, IfOk, chars, unwrap_or, IsTrue, refl, sym, ◌∙◌, ap, subst, arith, if◌then◌else◌}
 use Rattle.std.specs.List.{list_all, list_any}
 use Rattle.std.specs.Str.{IsUtf8, byte}
 use Rattle.std.proofs.lemmas.Bool.{and_from, and_parts, or_from, false≢true}
 use Rattle.std.proofs.lemmas.Bool.Decides.{nat_tests}
+use Rattle.std.proofs.lemmas.List.{nil_from_length, take_all}
 use Rattle.std.proofs.lemmas.List.Folds.{list_all-append}
 use Rattle.ansi_items.specs.Pieces.{Piece, Text, Sequence, LoneEscape, pieces_of}
 use Rattle.ansi_items.specs.Plain.{plain, plain_of, is_whole}
@@ -166,6 +167,11 @@ module _ (changes : List Change) (t : List ℕ) (left : List Change) (u : List �
     editing-step (Padded width alignment) tail_utf8 editing = after-other (Padded width alignment) tail_utf8 refl refl editing
     editing-step (Fitted width alignment tail) tail_utf8 editing = after-other (Fitted width alignment tail) tail_utf8 refl refl editing
 
+-- the first of the edits and the others, as the code splits them
+pub first_left : (left : List ColumnEdit) (or_else : ColumnEdit) → 1 ≤ length left → left ≡ get_or left 0 or_else ∷ take (length left - 1) (drop 1 left)
+first_left [] or_else some = absurd (omega (arith, some))
+first_left (next ∷ more) or_else some = ap (λ es. next ∷ es) (sym (take_all (length (next ∷ more) - 1) more (omega arith)))
+
 -- as the code does it: the next edit makes v of u
 pub editing-next : {changes : List Change} {t u v : List ℕ} {left more : List ColumnEdit} {next : ColumnEdit} → left ≡ next ∷ more → v ≡ changed (change_of next) u → IsUtf8 u × HasUtf8Tail (change_of next)
     → IsEditing changes t (changes_of left) u → IsEditing changes t (changes_of more) v
@@ -189,6 +195,18 @@ lent-next {all} {b} {c} u {v} {left} {more} {next} split made lends so_far =
     )
 
 -- ---- no change is left
+
+-- as the code tests it
+pub none_left : (left : List ColumnEdit) → length left < 1 → left ≡ []
+none_left left short = nil_from_length left (omega (arith, short))
+
+pub editing-ended : {changes : List Change} {t u : List ℕ} (left : List ColumnEdit) → length left < 1 → IsEditing changes t (changes_of left) u → IsEditing changes t [] u
+editing-ended {changes} {t} {u} left short editing = subst (λ es. IsEditing changes t (changes_of es) u) (none_left left short) editing
+
+-- two clauses on a result make a third
+pub if_ok_both : {X Y : Type 0} (r : Result X Y) {P Q R : X → Type 0} → ((x : X) → P x → Q x → R x) → IfOk r P → IfOk r Q → IfOk r R
+if_ok_both (Ok x) both p q = both x p q
+if_ok_both (Err y) both p q = tt
 
 module _ (changes : List Change) (t u : List ℕ) (editing : IsEditing changes t [] u) where
   -- one wasn't an expansion
