@@ -1,5 +1,5 @@
 -- What edits by columns make of a text in turn, and what that shows.
-use Rattle.std.proofs.Common.{◌≡◌, ℕ, ◌<◌, ◌≤◌, ◌⊎◌, inl, inr, Bool, true, false, not, ◌-◌, ◌↔◌, ◌==◌, ◌&&◌, ◌||◌, List, [], ◌∷◌, ◌++◌, length, get_or, take, drop, Result, Ok, Err, IfOk, chars, unwrap_or, IsTrue, refl, sym, ◌∙◌, ap, subst, arith, if◌then◌else◌}
+use Rattle.std.proofs.Common.{◌≡◌, ℕ, ◌<◌, ◌≤◌, ◌⊎◌, inl, inr, Bool, true, false, not, ◌-◌, ◌↔◌, ◌==◌, ◌&&◌, ◌||◌, List, [], ◌∷◌, length, get_or, take, drop, Result, Ok, Err, IfOk, chars, unwrap_or, IsTrue, refl, sym, ◌∙◌, ap, subst, arith, if◌then◌else◌}
 use Rattle.std.specs.List.{list_all, list_any}
 use Rattle.std.specs.Str.{IsUtf8, byte}
 use Rattle.std.proofs.lemmas.Bool.{and_from, and_parts, or_from, false≢true}
@@ -18,13 +18,11 @@ use Rattle.ansi_safe.proofs.SafeLemmas.{AreGood, good_stand}
 use Rattle.ansi_columns.specs.declared.edits.ColumnEdit.{ColumnEdit}
 use Rattle.ansi_columns.specs.declared.shown.Alignment.TheVariants.{Left}
 use Rattle.ansi_columns.specs.Columns.{columns}
-use Rattle.ansi_columns.specs.Edits.{Change, change_of, changes_of, IsLent, AreLent, IsLentCell, IsLentEdited, Expanded, Sliced, Truncated, Padded, Fitted, HasUtf8Tail, is_expansion, changed, changed_in_turn, only_expand, edited, changed_row, row_in_turn, edited_row}
-use Rattle.ansi_columns.specs.Fitted.{fitted}
+use Rattle.ansi_columns.specs.Edits.{Change, change_of, changes_of, IsLent, AreLent, Expanded, Sliced, Truncated, Padded, Fitted, HasUtf8Tail, is_expansion, changed, changed_in_turn, only_expand, edited, changed_row, row_in_turn, edited_row}
 use Rattle.ansi_columns.specs.Rows.{row, cell_row, row_screen, truncated_row_at, fitted_row}
 use Rattle.ansi_columns.specs.Screens.{screen}
 use Rattle.ansi_columns.specs.Shown.{padded, closed_cell}
-use Rattle.ansi_columns.specs.Slices.{sliced}
-use Rattle.ansi_columns.specs.Tabs.{piece_has_tab, has_tab, expanded}
+use Rattle.ansi_columns.specs.Tabs.{piece_has_tab, expanded}
 use Rattle.ansi_columns.proofs.CleanShownLemmas.{clean-padded_cell, clean-sliced_cell}
 use Rattle.ansi_columns.proofs.IndentLemmas.{padded-closed_alone}
 use Rattle.ansi_columns.proofs.IndentLawLemmas.{shut-cell}
@@ -197,7 +195,7 @@ lent-next {all} {b} {c} u {v} {left} {more} {next} split made lends so_far =
 -- ---- no change is left
 
 -- as the code tests it
-pub none_left : (left : List ColumnEdit) → length left < 1 → left ≡ []
+none_left : (left : List ColumnEdit) → length left < 1 → left ≡ []
 none_left left short = nil_from_length left (omega (arith, short))
 
 pub editing-ended : {changes : List Change} {t u : List ℕ} (left : List ColumnEdit) → length left < 1 → IsEditing changes t (changes_of left) u → IsEditing changes t [] u
@@ -211,9 +209,6 @@ if_ok_both (Err y) both p q = tt
 module _ (changes : List Change) (t u : List ℕ) (editing : IsEditing changes t [] u) where
   -- one wasn't an expansion
   module _ (other : only_expand changes ≡ false) where
-    pub ended-bytes : u ≡ edited changes t
-    ended-bytes = editing.bytes ∙ sym (ap (λ b. if b then closed_cell (changed_in_turn changes t) else changed_in_turn changes t) other)
-
     pub ended-shown : IsShown u
     ended-shown = by editing.kind
       where
@@ -238,15 +233,3 @@ module _ (changes : List Change) (t u : List ℕ) (editing : IsEditing changes t
 
       pub closed-screen : screen v ≡ row_screen (edited_row changes t)
       closed-screen = screen-row v ∙ ap row_screen (ap row closes ∙ row-closed_cell u utf8 ∙ editing.shows)
-
-  -- what is lent
-
-  pub lent-ended : {b : Type 0} → only_expand changes ≡ false → (b × AreLent [] u) ↔ AreLent changes t → b ↔ IsLentEdited changes t
-  lent-ended other so_far = (λ is. (so_far.0 (is, tt), λ only. absurd (false≢true (sym other ∙ only))), λ all. first (so_far.1 (first all)))
-
-  pub lent-closed : {b c : Type 0} → only_expand changes ≡ true → c ↔ (b × IsLent (Padded 0 Left) u) → (b × AreLent [] u) ↔ AreLent changes t → c ↔ IsLentEdited changes t
-  lent-closed only lends so_far =
-      let here : changed_in_turn changes t ≡ u = sym editing.bytes in (
-        λ is. (let both = lends.0 is in let lent = second both in (so_far.0 (first both, tt), λ yes. subst IsLentCell (sym here) (lent.0, lent.2))),
-        λ all. (let cell_is : IsLentCell u = subst IsLentCell here (second all only) in lends.1 (first (so_far.1 (first all)), (cell_is.0, omega arith, cell_is.1))),
-      )
