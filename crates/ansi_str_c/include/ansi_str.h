@@ -40,7 +40,8 @@ enum {
     ANSI_STR_OK = 0,
     /* it is false, or there is no such thing: no match of the pattern, no part or block of that index, or no link there */
     ANSI_STR_NO = 1,
-    /* a position is inside a character, or the end of a range is below its start; an edit is refused; or codes, ranges or an address are */
+    /* a position is inside a character, or the end of a range is below its start; an edit is refused; or codes, ranges or an
+       address are */
     ANSI_STR_REFUSED = 2,
     /* the text or a pattern isn't UTF-8 */
     ANSI_STR_NOT_UTF8 = 3,
