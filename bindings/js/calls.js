@@ -494,7 +494,6 @@ export function restyle(text, ranges, style) {
 
 /** What is made of a text and a range in bytes; it is refused only for the range. */
 function madeInRange(text, start, end, make) {
-  textOf('text', text);
   const [first, last] = [numberOf('start', start), numberOf('end', end)];
   const plain = isAscii(text) ? null : raw.strip(text);
   const places = plain === null ? [first, last] : [first, last].map((position) => placeIn(plain, position));
@@ -506,10 +505,12 @@ function madeInRange(text, start, end, make) {
 }
 
 export function remove(text, start, end) {
+  textOf('text', text);
   return madeInRange(text, start, end, (first, last) => raw.remove(text, first, last));
 }
 
 export function replace(text, start, end, replacement) {
+  textOf('text', text);
   textOf('replacement', replacement);
   return madeInRange(text, start, end, (first, last) => raw.replace(text, first, last, replacement));
 }
@@ -527,6 +528,7 @@ export function insert(text, position, added) {
 }
 
 export function link(text, start, end, address) {
+  textOf('text', text);
   if (!/^[ -~]+$/.test(textOf('address', address))) {
     throw new RangeError(`the address must be printable ASCII, and not empty: ${address}`);
   }
