@@ -51,7 +51,7 @@ stands_before (Text w) n rest stands = (stands.0, stands.1, λ some. (let first 
 stands_before (Sequence w) n rest stands = stands
 stands_before LoneEscape n rest stands = stands_alone n rest stands
 
-piece_before : (t : List ℕ) (p : Piece) (rest : List ℕ) (n : ℕ) (qs : List Piece) → t ≡ spelling p ++ rest → StandsBefore p rest → ArePieces (take n rest) qs → ArePieces (take (length (spelling p) + n) t) (p ∷ qs)
+pub piece_before : (t : List ℕ) (p : Piece) (rest : List ℕ) (n : ℕ) (qs : List Piece) → t ≡ spelling p ++ rest → StandsBefore p rest → ArePieces (take n rest) qs → ArePieces (take (length (spelling p) + n) t) (p ∷ qs)
 piece_before t p rest n qs spelled stands are =
     (take n rest, ap (take (length (spelling p) + n)) spelled ∙ take-after (spelling p) rest n, stands_before p n rest stands, are)
 

@@ -43,7 +43,7 @@ links_through link ps = seen_through link_after here link ps
 links_from-pieces : (link t : List ℕ) → links_from link t ≡ links_through link (pieces_of t)
 links_from-pieces link t = seen_by-pieces link_after here link (pieces_of t)
 
-after-pieces : (link t : List ℕ) → link_after_all link (marks t) ≡ link_through link (pieces_of t)
+pub after-pieces : (link t : List ℕ) → link_after_all link (marks t) ≡ link_through link (pieces_of t)
 after-pieces link t = state_after-marks_of link_after link (pieces_of t)
 
 pub links_in-from : (t : List ℕ) → links_in t ≡ links_from [] t
@@ -53,7 +53,7 @@ links_in-from t = each (range_with_len 0 (length (plain t)))
     each [] = refl
     each (i ∷ is) = ap₂ (λ l ls. l ∷ ls) (link_of-fold (marks_up_to i (marks t))) (each is)
 
-length-links_from : (link t : List ℕ) → length (links_from link t) ≡ length (plain t)
+pub length-links_from : (link t : List ℕ) → length (links_from link t) ≡ length (plain t)
 length-links_from link t = length-map (range_with_len 0 (length (plain t))) _ ∙ length-range_with_len 0 (length (plain t))
 
 -- The text u is whole. Read with the link l open, its plain bytes have these links, and it leaves m open.
@@ -65,7 +65,7 @@ pub record SeesLinks (l m : List ℕ) (ls : List (List ℕ)) (u : List ℕ) : Ty
 pub sees-itself : (l t : List ℕ) → IsTrue (is_whole t) → SeesLinks l (link_after_all l (marks t)) (links_from l t) t
 sees-itself l t whole = record { whole = whole; given = refl; left = refl }
 
-links_from-append : (l u v : List ℕ) → IsTrue (is_whole u) → IsTrue (is_whole v) → links_from l (u ++ v) ≡ links_from l u ++ links_from (link_after_all l (marks u)) v
+pub links_from-append : (l u v : List ℕ) → IsTrue (is_whole u) → IsTrue (is_whole v) → links_from l (u ++ v) ≡ links_from l u ++ links_from (link_after_all l (marks u)) v
 links_from-append l u v whole_u whole_v =
     let ps = pieces_of u in
     let qs = pieces_of v in
@@ -73,7 +73,7 @@ links_from-append l u v whole_u whole_v =
     ∙ seen_through-merged link_after here l (ps ++ qs) ∙ seen_through-append link_after here l ps qs
     ∙ ap₂ (λ x y. x ++ y) (sym (links_from-pieces l u)) (ap (λ m. links_through m qs) (sym (after-pieces l u)) ∙ sym (links_from-pieces (link_after_all l (marks u)) v))
 
-link_after-append : (l u v : List ℕ) → IsTrue (is_whole u) → IsTrue (is_whole v) → link_after_all l (marks (u ++ v)) ≡ link_after_all (link_after_all l (marks u)) (marks v)
+pub link_after-append : (l u v : List ℕ) → IsTrue (is_whole u) → IsTrue (is_whole v) → link_after_all l (marks (u ++ v)) ≡ link_after_all (link_after_all l (marks u)) (marks v)
 link_after-append l u v whole_u whole_v =
     let ps = pieces_of u in
     let qs = pieces_of v in
@@ -224,7 +224,7 @@ good_link-after l w good is = by_tests (is_link w) (opens_link w) refl refl
     by_tests true false a b = inl refl
     by_tests false y a b = good
 
-good_link-through : (l : List ℕ) (ps : List Piece) → GoodLink l → AllStandAnywhere ps → GoodLink (link_through l ps)
+pub good_link-through : (l : List ℕ) (ps : List Piece) → GoodLink l → AllStandAnywhere ps → GoodLink (link_through l ps)
 good_link-through l [] good all = good
 good_link-through l (Text w ∷ ps) good all = good_link-through l ps good all.1
 good_link-through l (Sequence w ∷ ps) good all = good_link-through (link_after l w) ps (good_link-after l w good all.0) all.1

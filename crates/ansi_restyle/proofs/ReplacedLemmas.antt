@@ -98,11 +98,11 @@ others-marks (p ∷ ps) = ap (λ u. copied p ++ u) (others-marks ps)
 
 -- What is read of a text that is put: it, and then the style and the link before it are back.
 
-record ReadsPut (s : Rendition) (link w u : List ℕ) : Type 0 where
-  whole : IsTrue (is_whole u)
-  given : (p : Rendition) → known p ≡ known s → styled_from p u ≡ styled_from s w
-  left : (p : Rendition) → known p ≡ known s → known (style_after_from p u) ≡ known s
-  sees : SeesLinks link link (links_from link w) u
+pub record ReadsPut (s : Rendition) (link w u : List ℕ) : Type 0 where
+  pub whole : IsTrue (is_whole u)
+  pub given : (p : Rendition) → known p ≡ known s → styled_from p u ≡ styled_from s w
+  pub left : (p : Rendition) → known p ≡ known s → known (style_after_from p u) ≡ known s
+  pub sees : SeesLinks link link (links_from link w) u
 
 module _ (s : Rendition) (is : IsStyle s) (link : List ℕ) (good : GoodLink link) (w : List ℕ) (whole : IsTrue (is_whole w)) where
   abbrev q : Rendition
@@ -181,7 +181,7 @@ module _ (s : Rendition) (is : IsStyle s) (link : List ℕ) (good : GoodLink lin
         sees = subst (λ m. SeesLinks link m (links_from link w) w) same_link (sees-itself link w whole);
       })
 
-  reads-put : ReadsPut s link w (put s link w)
+  pub reads-put : ReadsPut s link w (put s link w)
   reads-put = cond_both (has_escape w) (linked_back ++ codes_back) [] (λ v. ReadsPut s link w (w ++ v)) (λ some. put_with_back) (λ none. put_alone none)
 
 -- What a good range is to the text after its place.
@@ -241,7 +241,7 @@ replaced-written t before after part last w s link a b is_before is_after is_sty
 
 -- So a range of a whole text is replaced.
 
-unstyled-styled_from : (s : Rendition) (t : List ℕ) → unstyled (styled_from s t) ≡ plain t
+pub unstyled-styled_from : (s : Rendition) (t : List ℕ) → unstyled (styled_from s t) ≡ plain t
 unstyled-styled_from s t = ap unstyled (styled_from-pieces s t) ∙ bytes-seen_through apply styled_byte (λ (b : StyledByte). b.byte) (λ r b. refl) s (pieces_of t)
 
 unstyled-three : (bs cs ds : List StyledByte) (a b : ℕ) → unstyled (take a bs ++ cs ++ drop b ds) ≡ take a (unstyled bs) ++ unstyled cs ++ drop b (unstyled ds)
@@ -323,7 +323,7 @@ marks-front_0 t (Text [] ∷ ps) are = absurd (are.2.0 refl)
 marks-front_0 t (Text (b ∷ w) ∷ ps) are = ap mark_pieces (front_pieces-last 0 (b ∷ w) ps (omega arith)) ∙ sym (front_pieces-last 0 (b ∷ w) ps (omega arith))
 marks-front_0 t (p ∷ ps) are = ap (λ qs. p ∷ qs) (marks-front_0 are.0 ps are.3)
 
-sequences-front_0 : (t : List ℕ) → sequences (front 0 t) ≡ front 0 t
+pub sequences-front_0 : (t : List ℕ) → sequences (front 0 t) ≡ front 0 t
 sequences-front_0 t =
     let ps = pieces_of t in
     ap (λ qs. spelled (mark_pieces qs)) (pieces_of-front t 0) ∙ ap spelled (marks-front_0 t ps (pieces_are t) ∙ sym (pieces_of-front t 0)) ∙ spelled-pieces_of (front 0 t)
@@ -349,7 +349,7 @@ length-link_back link other =
     (λ none. omega (arith, length-link_end other))
     (λ some. omega arith))
 
-length-put : (s : Rendition) (link w : List ℕ) → IsStyle s → length (put s link w) ≤ length w + length link + 258
+pub length-put : (s : Rendition) (link w : List ℕ) → IsStyle s → length (put s link w) ≤ length w + length link + 258
 length-put s link w is =
     let q = style_after_from s w in
     let l = link_back link (link_after_all link (marks w)) in

@@ -5,4 +5,5 @@ pub mod Restyled
 pub mod Linked
 pub mod Removed
 pub mod Replaced
+pub mod ReplacedAll
 pub mod Links

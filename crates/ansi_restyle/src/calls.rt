@@ -16,12 +16,14 @@ ghost use Rattle.ansi_restyle.specs.Matches.{matches};
 ghost use Rattle.ansi_restyle.specs.Ranges.{are_in_turn, are_empty, keep_line_ends};
 ghost use Rattle.ansi_restyle.specs.Removed.{removed, IsRemoved};
 ghost use Rattle.ansi_restyle.specs.Replaced.{replaced, IsReplaced};
+ghost use Rattle.ansi_restyle.specs.ReplacedAll.{replaced_all, IsReplacedAll};
 ghost use Rattle.ansi_restyle.specs.Restyled.{is_change, restyled, IsRestyled};
 
 use crate::links::{link_in, unlink_in};
 use crate::matches::{Matches, find_from};
 use crate::remove::remove_in;
 use crate::replace::{insert_in, replace_in};
+use crate::replace_all::replace_all_in;
 use crate::restyle::{mark_in, restyle_in};
 use ansi_str::AnsiStr;
 use std::alloc::{AllocError, Global};
@@ -212,7 +214,7 @@ pub trait AnsiRestyle: AnsiStr {
     /// The new text is in the style and the link of the character before the range; at the front, of
     /// the first character. Its own sequences come on top of that. Where it ends, the style and the
     /// link that it opened end. Each character before the range or after it keeps its style and its
-    /// link. Every sequence of the text stays, those in the range behind the new text.
+    /// link. Every sequence of the text stays; those in the range come right after the new text.
     ///
     /// A range is a pair of positions, which count bytes of the plain text. It is `None` exactly if
     /// `ansi_restyle` would refuse the range: if it ends before it begins, or a position of it is
@@ -286,6 +288,40 @@ pub trait AnsiRestyle: AnsiStr {
             ⊎ IsFalse (is_char_boundary (plain (Self.text self.now)) position) → IsOk result }
     {
         insert_in(alloc, self.as_text(), position, with)
+    }
+
+    /// The text with another text in place of each match of a pattern (std's `replace`, on the plain
+    /// text).
+    ///
+    /// The matches are those of `ansi_matches`. Each is replaced as `ansi_replace` does it: the new
+    /// text is in the style and the link that the character before the match has in this text; at the
+    /// front, of the first character. Its own sequences come on top of that, and what it opens ends
+    /// where it ends. Every other character keeps its style and its link.
+    ///
+    /// It is a borrow if nothing matches. A borrow doesn't allocate. Otherwise it is owned. `Err`
+    /// means out of memory. (Own.)
+    ///
+    /// ```
+    /// let replaced = "\x1b[32mone\x1b[39m, one".ansi_replace_all(rt.alloc(), "one", "two");
+    /// assert!(rt; matches!(&replaced, Ok(replaced) if replaced.as_str() == "\x1b[32mtwo\x1b[39m, two"));
+    /// ```
+    final fn ansi_replace_all(
+        &self,
+        alloc: Global,
+        pat: &str,
+        with: &str,
+    ) -> Result<CowStr<'_>, AllocError>
+        ensures headline { IsTrue (is_whole (Self.text self.now) && is_whole with.now) →
+            IfOk result (λ c. IsReplacedAll (Self.text self.now)
+            (matches (plain (Self.text self.now)) pat.now) with.now (cow_str_bytes c)) }
+        ensures bytes { IfOk result (λ c.
+            cow_str_bytes c ≡ replaced_all (Self.text self.now) pat.now with.now) }
+        ensures borrowed { IfOk result (λ c.
+            IsBorrowedStr c ↔ (matches (plain (Self.text self.now)) pat.now ≡ [])) }
+        ensures takes_no_memory { matches (plain (Self.text self.now)) pat.now ≡ [] →
+            IsOk result }
+    {
+        replace_all_in(alloc, self.as_text(), pat, with)
     }
 
     /// The links of the text, in order: an iterator over the range and the address of each.

@@ -12,6 +12,7 @@ pub mod links;
 pub mod matches;
 pub mod remove;
 pub mod replace;
+pub mod replace_all;
 mod rest;
 pub mod restyle;
 

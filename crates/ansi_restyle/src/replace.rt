@@ -5,11 +5,12 @@ ghost use Rattle.std.specs.Cow.{cow_str_bytes, IsBorrowedStr};
 ghost use Rattle.std.specs.Str.{IsCharBoundary};
 ghost use Rattle.ansi_items.specs.Plain.{plain, is_whole};
 ghost use Rattle.ansi_safe.specs.Links.{link_at};
-ghost use Rattle.ansi_search.specs.Positions.{is_char_boundary};
+ghost use Rattle.ansi_search.specs.Positions.{is_char_boundary, no_character_goes_on};
 ghost use Rattle.ansi_style.specs.States.{rendition_of};
 ghost use Rattle.ansi_style.specs.Styled.{style_at};
 ghost use Rattle.ansi_restyle.specs.Ranges.{are_in_turn};
 ghost use Rattle.ansi_restyle.specs.Replaced.{place_of, link_back, put, replaced, IsReplaced};
+ghost use Rattle.ansi_restyle.specs.ReplacedAll.{without_front};
 
 use crate::rest::Rest;
 use crate::restyle::are_in_turn;
@@ -98,14 +99,14 @@ pub fn insert_in<'t, A: Allocator>(
 
 /// Where a text is put in, and the style and the link there.
 #[derive(Clone, Copy)]
-struct Place<'t> {
-    offset: usize,
+pub(crate) struct Place<'t> {
+    pub(crate) offset: usize,
     pen: Pen<'t>,
 }
 
 /// Where a text is put in at a position: right after the character before it, or at the front, right
 /// before the first character.
-fn place_of(text: &str, position: usize) -> Place<'_>
+pub(crate) fn place_of(text: &str, position: usize) -> Place<'_>
     requires { IsTrue (is_char_boundary (plain text.now) position) }
     ensures offset { result.offset ≡ place_of position text.now }
     ensures boundary { IsCharBoundary text.now result.offset }
@@ -138,7 +139,11 @@ fn place_of(text: &str, position: usize) -> Place<'_>
 /// Appends a text that is put where a pen is. After it, if it has an ESC, come what brings the link
 /// back, the close of the style then, and the start of the style before. `Err` means out of memory;
 /// what was appended before it stays.
-fn push_put<A: Allocator>(out: &mut String<A>, with: &str, pen: &Pen<'_>) -> Result<(), AllocError>
+pub(crate) fn push_put<A: Allocator>(
+    out: &mut String<A>,
+    with: &str,
+    pen: &Pen<'_>,
+) -> Result<(), AllocError>
     ensures { OnOk result (string_bytes out.new
         ≡ string_bytes out.old ++ put (rendition_of pen.now.style) pen.now.link.now with.now) }
 {
@@ -150,6 +155,24 @@ fn push_put<A: Allocator>(out: &mut String<A>, with: &str, pen: &Pen<'_>) -> Res
     out.push_str(link_back(pen, &after))?;
     styles::write_close(&after.style, out)?;
     styles::write_start(&pen.style, out)?;
+    Ok(())
+}
+
+/// Appends a text without the front of its plain text, with every sequence. `Err` means out of
+/// memory; what was appended before it stays.
+pub(crate) fn push_without_front<A: Allocator>(
+    out: &mut String<A>,
+    text: &str,
+    len: usize,
+) -> Result<(), AllocError>
+    requires { IsTrue (no_character_goes_on (plain text.now) len) }
+    ensures { OnOk result (string_bytes out.new
+        ≡ string_bytes out.old ++ without_front len text.now) }
+{
+    let mut style = styles::plain_style();
+    let divided = Rest::new(text).split_at(&mut style, len).unwrap();
+    push_sequences(out, divided.front, len)?;
+    out.push_str(divided.rest.text)?;
     Ok(())
 }
 

@@ -4,6 +4,7 @@ use ansi_restyle::links::{Links, link_in, unlink_in};
 use ansi_restyle::matches::Matches;
 use ansi_restyle::remove::remove_in;
 use ansi_restyle::replace::{insert_in, replace_in};
+use ansi_restyle::replace_all::replace_all_in;
 use ansi_restyle::restyle::{mark_in, restyle_in};
 
 #[test]
@@ -146,6 +147,22 @@ fn ansi_links_example(rt: HostRuntime) {
         matches!(links.next(), Some(link) if link.range == (2, 6) && link.address == "http://x")
     );
     assert!(rt; links.next().is_none());
+}
+
+#[test]
+fn replace_all_in_example(rt: HostRuntime) {
+    let replaced = replace_all_in(rt.alloc(), "a \x1b[31mred\x1b[39m deed", "ed", "\x1b[1mip");
+    assert!(rt;
+        matches!(&replaced, Ok(replaced) if replaced.as_str() == "a \x1b[31mr\x1b[1mip\x1b[22m\x1b[39m\x1b[31m\x1b[39m de\x1b[1mip\x1b[22m")
+    );
+}
+
+#[test]
+fn ansi_replace_all_example(rt: HostRuntime) {
+    let replaced = "\x1b[32mone\x1b[39m, one".ansi_replace_all(rt.alloc(), "one", "two");
+    assert!(rt;
+        matches!(&replaced, Ok(replaced) if replaced.as_str() == "\x1b[32mtwo\x1b[39m, two")
+    );
 }
 
 #[test]
