@@ -1,6 +1,6 @@
 -- A text with another in place of each of the matches of a pattern.
 use Rattle.std.proofs.Common.{◌≡◌, ◌≢◌, ◌&&◌, Some, None, ℕ, zero, suc, ◌+◌, ◌-◌, ◌<◌, ◌≤◌, inl, inr, Bool, true, false, List, [], ◌∷◌, ◌++◌, length, map, filter, take, drop, refl, sym, ◌∙◌, ap, ap₂, subst, arith, IsTrue, append-nil, append_assoc, slice_range, get_or, nat_le, nat_lt, if◌then◌else◌}
-use Rattle.std.specs.Prelude.{⊤}
+use Rattle.std.specs.Prelude.{⊤, IsFalse}
 use Rattle.std.proofs.lemmas.Bool.{cases_lt, cond_both, and_from, and_parts, le-leb, lt-ltb, le-ltb}
 use Rattle.std.proofs.lemmas.List.{take-append-drop, take-append-le, take_all, map-append, drop-drop, length-drop, length-take, length-take-le, get_or-drop}
 use Rattle.std.proofs.lemmas.List.FromFn.{get_or-map-range_with_len}
@@ -9,7 +9,7 @@ use Rattle.std.specs.Str.{IsUtf8}
 use Rattle.std.specs.List.{take-map, drop-map, range_with_len}
 use Rattle.ansi_items.specs.Bytes.{is_plain_byte}
 use Rattle.ansi_items.specs.Pieces.{Piece, Text, ArePieces, spelling, pieces_of}
-use Rattle.ansi_items.specs.Plain.{plain, plain_of, marks, marks_up_to, is_whole}
+use Rattle.ansi_items.specs.Plain.{plain, plain_of, has_escape, marks, marks_up_to, is_whole}
 use Rattle.ansi_items.proofs.PieceLemmas.{pieces_are, pieces_of-unique}
 use Rattle.ansi_items.proofs.PlainLemmas.{has_escape-bare, one_text, one_text_are}
 use Rattle.ansi_items.proofs.JoinLemmas.{pieces_stand}
@@ -49,6 +49,7 @@ use Rattle.ansi_restyle.proofs.LinkedLemmas.{SeesLinks, sees-itself, sees-append
 use Rattle.ansi_restyle.proofs.PlaceLemmas.{begins, one, up_to_byte, whole-bare, style_after-bare, place_of-front, place_of-later, is_place, plain-after_place, take_seam, drop_seam}
 use Rattle.ansi_restyle.proofs.RangeLemmas.{AreFirst, are_first, in_turn-within}
 use Rattle.ansi_restyle.proofs.RemovedLemmas.{up_to-all, length-part, is_whole-sequences, styled_from-sequences, style_after-sequences, styled_from-rest}
+use Rattle.ansi_restyle.proofs.RestLemmas.{offset_in_run}
 use Rattle.ansi_restyle.proofs.ReplacedLemmas.{ReadsPut, reads-put, unstyled-styled_from, sequences-front_0}
 
 drop_of_take : {A : Type 0} (m d : ℕ) (xs : List A) → drop m (take d xs) ≡ take (d - m) (drop m xs)
@@ -575,3 +576,9 @@ pub is_replaced_all : (t p w : List ℕ) → IsUtf8 t → IsUtf8 p → IsTrue (i
 is_replaced_all t p w utf8 utf8_p whole =
     let both = and_parts (is_whole t) (is_whole w) whole in
     is_replaced_each t w (matches (plain t) p) (matches_in_turn (plain t) p (IsUtf8-plain t utf8) utf8_p) (matches_rise (plain t) p) both.0 both.1
+
+-- in a run, the place of a position is the position
+pub place_in_run : (t : List ℕ) (run n : ℕ) → run ≤ length t → IsFalse (has_escape (take run t)) → 0 < n → n < run → n ≡ place_of n t
+place_in_run t run n within none some inside =
+    let sum : n ≡ n - 1 + 1 = omega (arith, some) in
+    sum ∙ ap (λ k. k + 1) (offset_in_run t run (n - 1) within none (omega (arith, inside))) ∙ sym (place_of-later t n some)

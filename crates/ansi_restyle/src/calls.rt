@@ -299,7 +299,7 @@ pub trait AnsiRestyle: AnsiStr {
     /// where it ends. Every other character keeps its style and its link.
     ///
     /// It is a borrow if nothing matches. A borrow doesn't allocate. Otherwise it is owned. `Err`
-    /// means out of memory. (Own.)
+    /// means out of memory. Takes time in proportion to the text, the pattern and the result. (Own.)
     ///
     /// ```
     /// let replaced = "\x1b[32mone\x1b[39m, one".ansi_replace_all(rt.alloc(), "one", "two");

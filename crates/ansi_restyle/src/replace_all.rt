@@ -6,7 +6,8 @@ ghost use Rattle.ansi_restyle.specs.Matches.{matches};
 ghost use Rattle.ansi_restyle.specs.ReplacedAll.{replaced_all, IsReplacedAll};
 
 use crate::matches::{Matches, find_from};
-use crate::replace::{place_of, push_put, push_without_front};
+use crate::replace::{push_put, push_without_front};
+use crate::rest::Rest;
 use ansi_safe::links::{pen_after_from, plain_pen};
 use std::alloc::{AllocError, Allocator};
 use std::borrow::CowStr;
@@ -51,12 +52,12 @@ fn push_replaced_all<A: Allocator>(
     ensures { OnOk result (string_bytes out.new
         ≡ string_bytes out.old ++ replaced_all text.now pat.now with.now) }
 {
-    let mut rest = text;
+    let mut rest = Rest::new(text);
     let mut pen = plain_pen();
     let mut place = 0;
     let mut len = 0;
     for (start, end) in Matches::new(text, pat) {
-        let (before, after) = rest.split_at(place_of(rest, start - place).offset);
+        let (before, after) = rest.split_at_place(start - place);
         push_without_front(out, before, len)?;
         pen = pen_after_from(pen, before);
         push_put(out, with, &pen)?;
@@ -64,5 +65,5 @@ fn push_replaced_all<A: Allocator>(
         place = start;
         len = end - start;
     }
-    push_without_front(out, rest, len)
+    push_without_front(out, rest.text, len)
 }

@@ -1,14 +1,16 @@
 //! What is left of a text.
-ghost use Rattle.std.specs.Prelude.{◌≡◌, take, drop, length, IfSome, IsFalse};
+ghost use Rattle.std.specs.Prelude.{◌≡◌, take, drop, length, IfSome, IsFalse, IsTrue};
 ghost use Rattle.std.specs.Option.{MatchOption};
 ghost use Rattle.std.specs.Str.{IsCharBoundary};
 ghost use Rattle.ansi_items.specs.Plain.{plain, has_escape};
 ghost use Rattle.ansi_search.specs.Matches.{first_match_from};
-ghost use Rattle.ansi_search.specs.Positions.{no_character_goes_on};
+ghost use Rattle.ansi_search.specs.Positions.{is_char_boundary, no_character_goes_on};
 ghost use Rattle.ansi_style.specs.Reading.{style_within};
 ghost use Rattle.ansi_style.specs.States.{rendition_of};
+ghost use Rattle.ansi_restyle.specs.Replaced.{place_of};
 ghost use Rattle.ansi_restyle.specs.Rests.{IsDivided};
 
+use crate::replace::place_of;
 use ansi_items::ansitok::{Kind, Scanner};
 use ansi_search::search;
 use ansi_style::state::Style;
@@ -76,6 +78,21 @@ impl<'t> Rest<'t> {
         let (front, text) = self.text.split_at(offset);
         let rest = Rest::new(text);
         Some(Divided { front, rest })
+    }
+
+    /// The text in two where another text is put in at a position.
+    pub(crate) fn split_at_place(&self, position: usize) -> (&'t str, Rest<'t>)
+        requires { IsTrue (is_char_boundary (plain self.now.text.now) position) }
+        ensures front { result.0.now ≡ take (place_of position self.now.text.now) self.now.text.now }
+        ensures rest { result.1.text.now ≡ drop (place_of position self.now.text.now) self.now.text.now }
+    {
+        if 0 < position && position < self.run_len {
+            let (front, text) = self.text.split_at(position);
+            let run_len = self.run_len - position;
+            return (front, Rest { text, run_len });
+        }
+        let (front, text) = self.text.split_at(place_of(self.text, position).offset);
+        (front, Rest::new(text))
     }
 }
 
