@@ -27,7 +27,8 @@ use Rattle.ansi_safe.proofs.LinkLemmas.{link_of-fold, link_of-pieces, link_throu
 use Rattle.ansi_safe.proofs.EndingLemmas.{length-link_end, link_end-open, link_end-shut}
 use Rattle.ansi_restyle.specs.Ranges.{are_in_turn}
 use Rattle.ansi_restyle.specs.Restyled.{front, rest}
-use Rattle.ansi_restyle.specs.Links.{without_links, is_clean_address, link_to, as_link, with_link, link_of_each, IsLinked, IsInThree}
+use Rattle.ansi_restyle.specs.Linked.{links_in}
+use Rattle.ansi_restyle.specs.Links.{without_links, is_clean_address, link_to, as_link, with_link, IsLinked, IsInThree}
 use Rattle.ansi_restyle.proofs.FrontLemmas.{front_pieces, front_pieces-last, front_pieces-text, pieces_of-front, is_whole-front, is_whole-rest, plain-rest}
 use Rattle.ansi_restyle.proofs.LengthLemmas.{length-both}
 use Rattle.ansi_restyle.proofs.RangeLemmas.{are_first, in_turn-within}
@@ -216,7 +217,7 @@ seen_link link b = link
 abbrev each_link : List ℕ → List Piece → List (List ℕ)
 each_link link ps = seen_through link_after seen_link link ps
 
-each-pieces : (t : List ℕ) → link_of_each t ≡ each_link [] (pieces_of t)
+each-pieces : (t : List ℕ) → links_in t ≡ each_link [] (pieces_of t)
 each-pieces t =
     seen_by-alike link_after seen_link (plain t) (link_at t) (state_by_marks link_after [] (pieces_of t)) (λ i below. link_of-fold (marks_up_to i (marks t)))
     ∙ seen_by-pieces link_after seen_link [] (pieces_of t)
@@ -384,14 +385,14 @@ is_linked t r address whole good clean =
     let all_t = read-append at_start (read-append within onward) in
     let all_u = read-append (read-then (read-append (read-then at_start (read-link_end q)) (read-as_link [] address part clean whole_part)) (read-open q_end (open-at t r.1 whole))) onward in
     let is_t : f ++ (part ++ last) ≡ t = ap (λ v. f ++ v) (take-append-drop (offset_of here n) here) ∙ take-append-drop (offset_of t r.0) t in
-    let links_t : link_of_each t ≡ fs ++ (ps ++ ls) = each-pieces t ∙ ap (λ v. each_link [] (pieces_of v)) (sym is_t) ∙ all_t.each in
+    let links_t : links_in t ≡ fs ++ (ps ++ ls) = each-pieces t ∙ ap (λ v. each_link [] (pieces_of v)) (sym is_t) ∙ all_t.each in
     let size_f : length fs ≡ r.0
     = length-each [] (pieces_of f) ∙ ap length (is_cut_after t r.0 (offset_of t r.0) refl).plain_front ∙ length-take-le r.0 (plain t) (omega (arith, ends, inside)) in
     let size_here : length (plain here) ≡ length (plain t) - r.0 = ap length (plain-rest t r.0) ∙ length-drop r.0 (plain t) in
     let size_part : length (plain part) ≡ n
     = ap length (is_cut_after here n (offset_of here n) refl).plain_front ∙ length-take-le n (plain here) (omega (arith, size_here, ends, inside)) in
     let size_p : length ps ≡ n = length-each q (pieces_of part) ∙ size_part in
-    let both = parts r.0 r.1 fs ps ls (link_of_each t) links_t size_f (omega (arith, size_f, size_p, ends)) in
+    let both = parts r.0 r.1 fs ps ls (links_in t) links_t size_f (omega (arith, size_f, size_p, ends)) in
     let others : without_links u ≡ without_links t
     = without_links-kept u ∙ all_u.others ∙ append_assoc kf kp kl ∙ sym (without_links-kept t ∙ ap (λ v. kept_of (pieces_of v)) (sym is_t) ∙ all_t.others) in
     let bare_t = is_without_links t whole in
@@ -411,7 +412,7 @@ is_linked t r address whole good clean =
 
 pub is_linked-empty : (t : List ℕ) (r : ℕ × ℕ) (address : List ℕ) → r.0 ≡ r.1 → IsTrue (is_whole t) → IsLinked t r address t
 is_linked-empty t r address same whole =
-    let ls = link_of_each t in
+    let ls = links_in t in
     let none : r.1 - r.0 ≡ 0 = omega (arith, same) in
     let all : take r.0 ls ++ replicate (r.1 - r.0) (link_to address) ++ drop r.1 ls ≡ ls
     = ap₂ (λ k m. (take r.0 ls ++ replicate k (link_to address)) ++ drop m ls) none (sym same)

@@ -1,11 +1,12 @@
 -- The links of a text, and the text without them or with a range linked.
 use Rattle.std.specs.Prelude.{◌≡◌, ℕ, ◌+◌, ◌-◌, ◌==◌, ◌&&◌, Bool, not, List, [], ◌∷◌, ◌++◌, length, map, filter, flat_map, take, drop, replicate, nat_lt, unwrap_or, IsTrue, if◌then◌else◌, codes}
-use Rattle.std.specs.List.{list_all, list_any, range_with_len}
+use Rattle.std.specs.List.{list_all, list_any}
 use Rattle.ansi_items.specs.Pieces.{spelling, pieces_of}
 use Rattle.ansi_items.specs.Plain.{Mark, plain, marks, is_whole}
 use Rattle.ansi_style.specs.Styled.{styled, residue}
 use Rattle.ansi_safe.specs.Links.{address_of, is_link, link_at, link_end, link_of}
 use Rattle.ansi_safe.specs.Safe.{is_printable_byte}
+use Rattle.ansi_restyle.specs.Linked.{links_in}
 use Rattle.ansi_restyle.specs.Ranges.{are_in_turn}
 use Rattle.ansi_restyle.specs.Restyled.{front, rest}
 use Rattle.ansi_restyle.specs.declared.links.Link.{Link}
@@ -72,13 +73,9 @@ is_clean_address address = nat_lt 0 (length address) && list_all is_printable_by
 abbrev pub link_to : List ℕ → List ℕ
 link_to address = codes "\u{1b}]8;;" ++ address ++ codes "\u{1b}\\"
 
--- the link at each plain byte of t: the sequence that opened it, or nothing
-abbrev pub link_of_each : List ℕ → List (List ℕ)
-link_of_each t = map (λ i. link_at t i) (range_with_len 0 (length (plain t)))
-
 -- The headline: u is t with the range r linked to an address. Each byte in the range has that link, and each other byte has the link that it has in t. Without links both are the same text, so the plain text, the styles and all other sequences stay. It is a whole text, and leaves open the link and the style that t does. (own)
 pub record IsLinked (t : List ℕ) (r : ℕ × ℕ) (address u : List ℕ) : Type 0 where
-  pub linked_bytes : link_of_each u ≡ take r.0 (link_of_each t) ++ replicate (r.1 - r.0) (link_to address) ++ drop r.1 (link_of_each t)
+  pub linked_bytes : links_in u ≡ take r.0 (links_in t) ++ replicate (r.1 - r.0) (link_to address) ++ drop r.1 (links_in t)
   pub open_link : link_of (marks u) ≡ link_of (marks t)
   pub others : without_links u ≡ without_links t
   pub styled_bytes : styled u ≡ styled t
