@@ -1,5 +1,5 @@
 -- A text with another in place of each of the matches of a pattern.
-use Rattle.std.proofs.Common.{◌≡◌, ◌≢◌, ◌&&◌, Some, None, ℕ, zero, suc, ◌+◌, ◌-◌, ◌<◌, ◌≤◌, inl, inr, Bool, true, false, List, [], ◌∷◌, ◌++◌, length, map, filter, take, drop, refl, sym, ◌∙◌, ap, ap₂, subst, arith, IsTrue, append-nil, append_assoc, slice_range, get_or, nat_le, nat_lt, if◌then◌else◌}
+use Rattle.std.proofs.Common.{◌≡◌, ◌≢◌, ◌&&◌, Some, None, ℕ, zero, suc, ◌+◌, ◌-◌, ◌<◌, ◌≤◌, inl, inr, true, List, [], ◌∷◌, ◌++◌, length, map, filter, take, drop, refl, sym, ◌∙◌, ap, ap₂, subst, arith, IsTrue, append-nil, append_assoc, slice_range, get_or, nat_le, nat_lt, if◌then◌else◌}
 use Rattle.std.specs.Prelude.{⊤, IsFalse}
 use Rattle.std.proofs.lemmas.Bool.{cases_lt, cond_both, and_from, and_parts, le-leb, lt-ltb, le-ltb}
 use Rattle.std.proofs.lemmas.List.{take-append-drop, take-append-le, take_all, map-append, drop-drop, length-drop, length-take, length-take-le, get_or-drop}
@@ -28,11 +28,11 @@ use Rattle.ansi_search.proofs.SliceLemmas.{list_all-parts, take-append}
 use Rattle.ansi_search.proofs.OffsetLemmas.{bytes_before-last, bytes_before-text}
 use Rattle.ansi_search.proofs.PositionLemmas.{no_character_goes_on-append, no_character_goes_on-drop, no_character_goes_on-past, no_character_goes_on-boundary}
 use Rattle.ansi_slice.specs.Stretches.{sequences_up_to}
-use Rattle.ansi_search.specs.Matches.{is_match, match_places, first_match_from}
+use Rattle.ansi_search.specs.Matches.{is_match, first_match_from}
 use Rattle.ansi_split.specs.Parts.{without_overlaps}
 use Rattle.ansi_split.proofs.AfterLemmas.{is_cut_after}
 use Rattle.ansi_safe.specs.Links.{link_of, link_at, link_after_all}
-use Rattle.ansi_safe.proofs.LinkLemmas.{link_after_all-none, link_of-fold}
+use Rattle.ansi_safe.proofs.LinkLemmas.{link_after_all-none}
 use Rattle.ansi_restyle.specs.Linked.{links_in, links_from}
 use Rattle.ansi_restyle.specs.Matches.{matches}
 use Rattle.ansi_restyle.specs.Ranges.{are_in_turn}
@@ -45,12 +45,12 @@ use Rattle.ansi_restyle.proofs.MatchLemmas.{matches_left-all, matches_left-none,
 use Rattle.ansi_restyle.proofs.OtherLemmas.{kept_of}
 use Rattle.ansi_restyle.proofs.ChangeLemmas.{Reads, reads-itself, reads-append}
 use Rattle.ansi_restyle.proofs.FrontLemmas.{piece_before, is_whole-front, is_whole-rest, style_after-front, style_after-parts, length-styled_from}
-use Rattle.ansi_restyle.proofs.LinkedLemmas.{SeesLinks, sees-itself, sees-append, sees-sequences, sees-rest, links_in-from, links_from-append, link_after-append, length-links_from, after-pieces, GoodLink, good_link-through}
+use Rattle.ansi_restyle.proofs.LinkedLemmas.{SeesLinks, sees-append, sees-sequences, sees-rest, links_in-from, links_from-append, link_after-append, length-links_from, after-pieces, GoodLink, good_link-through}
 use Rattle.ansi_restyle.proofs.PlaceLemmas.{begins, one, up_to_byte, whole-bare, style_after-bare, place_of-front, place_of-later, is_place, plain-after_place, take_seam, drop_seam}
 use Rattle.ansi_restyle.proofs.RangeLemmas.{AreFirst, are_first, in_turn-within}
 use Rattle.ansi_restyle.proofs.RemovedLemmas.{up_to-all, length-part, is_whole-sequences, styled_from-sequences, style_after-sequences, styled_from-rest}
 use Rattle.ansi_restyle.proofs.RestLemmas.{offset_in_run}
-use Rattle.ansi_restyle.proofs.ReplacedLemmas.{ReadsPut, reads-put, unstyled-styled_from, sequences-front_0}
+use Rattle.ansi_restyle.proofs.ReplacedLemmas.{reads-put, unstyled-styled_from, sequences-front_0}
 
 drop_of_take : {A : Type 0} (m d : ℕ) (xs : List A) → drop m (take d xs) ≡ take (d - m) (drop m xs)
 drop_of_take zero d xs = (let same : d ≡ d - 0 = omega arith in ap (λ i. take i xs) same)

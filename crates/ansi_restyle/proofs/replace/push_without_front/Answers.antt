@@ -1,8 +1,7 @@
-use Rattle.std.proofs.Common.{ℕ, List, ◌∙◌, ap, string_bytes}
+use Rattle.std.proofs.Common.{string_bytes}
 use Rattle.ansi_items.specs.Plain.{plain}
 use Rattle.ansi_search.proofs.PositionLemmas.{no_character_goes_on-past}
 use Rattle.ansi_restyle.specs.Rests.{IsDivided}
-use Rattle.ansi_restyle.specs.ReplacedAll.{without_front}
 use Rattle.ansi_restyle.proofs.RemovedLemmas.{length-part}
 use Rattle.ansi_restyle.proofs.ReplacedAllLemmas.{without_front-written}
 use Rattle.ansi_restyle.proofs.replace.push_without_front.Goals as goal

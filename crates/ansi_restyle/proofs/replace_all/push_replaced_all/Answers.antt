@@ -1,4 +1,4 @@
-use Rattle.std.proofs.Common.{rules, ◌+◌, ◌-◌, Result, Ok, Err, OnOk, refl, ◌∙◌, ap, string_bytes}
+use Rattle.std.proofs.Common.{Result, Ok, Err, OnOk, refl, ◌∙◌, ap, string_bytes}
 use Rattle.ansi_items.specs.Plain.{plain}
 use Rattle.ansi_items.proofs.Utf8Lemmas.{IsUtf8-plain}
 use Rattle.ansi_search.specs.Positions.{no_character_goes_on}

@@ -1,5 +1,5 @@
-use Rattle.std.proofs.Common.{ℕ, List, [], ◌≡◌, ◌≢◌, ◌⊎◌, Option, Some, None, is_some, IsTrue, true, false, refl, sym, ◌∙◌, ap, subst, string_bytes, rules, length}
-use Rattle.ansi_items.specs.Plain.{plain, is_whole}
+use Rattle.std.proofs.Common.{ℕ, List, [], ◌≡◌, ◌≢◌, Option, Some, None, is_some, true, false, sym, subst, rules}
+use Rattle.ansi_items.specs.Plain.{plain}
 use Rattle.ansi_search.specs.Matches.{first_match_from}
 use Rattle.ansi_restyle.specs.Matches.{matches}
 use Rattle.ansi_restyle.specs.ReplacedAll.{IsReplacedAll}
