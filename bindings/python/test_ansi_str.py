@@ -7,6 +7,7 @@ import importlib.util
 import inspect
 import os
 import pydoc
+import random
 import re
 import subprocess
 import sys
@@ -445,6 +446,24 @@ class Arguments(unittest.TestCase):
         # what follows a lone ESC is text
         self.assertEqual(told("\x1b\x1b[1m[2Ja"), [("[2Ja", None, "\x1b")])
         self.assertEqual([block[:2] for block in told("\x1b[1m<b>\x1b[2J&\x1b]0;t\x07c")], [("<b>", None), ("&", None), ("c", None)])
+
+    def test_blocks_and_pens_agree_with_other_calls(self):
+        pieces = ["a", "\xe9", "\u0600", "\u0301", "\x1b", "[m", "]8;;z\x07", "\x1b[1m", "\x1b[31m", "\x1b[0m", "\x1b[99m", "\x1b]8;;u\x07",
+                  "\x1b]8;id=2;-\x1b\\", "\x1b]8;;\x07", "\x1b]8;x\x07", "\x1b]0;\x1b]8;;q\x07", "\x1b]8;;\xe9\x07", "\x1b[2J"]
+        choice = random.Random(5).choices
+        for count in range(1000):
+            text = "".join(choice(pieces, k=count % 10))
+            blocks, position = ansi_str.blocks(text), 0
+            for block in blocks:
+                self.assertEqual(block.link, ansi_str.link_at(text, position), text)
+                position += len(block.text)
+            self.assertEqual("".join(block.text for block in blocks), ansi_str.strip(text))
+            if ansi_str.is_whole(text):
+                pen, last = ansi_str.pen_after(text), ansi_str.blocks(text + "x")[-1]
+                self.assertEqual((pen.style, pen.link), (last.style, last.link), text)
+                self.assertEqual(ansi_str.blocks(pen.start + "x")[-1].style.start, pen.style.start, text)
+                closed = ansi_str.blocks(text + pen.end + "x")[-1]
+                self.assertEqual((closed.style.start, closed.style.end, closed.link), ("", "", None), text)
 
     def test_the_pen_after_a_text(self):
         link, link_end = "\x1b]8;id=1;http://x\x1b\\", "\x1b]8;;\x1b\\"
