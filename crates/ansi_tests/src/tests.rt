@@ -2,6 +2,7 @@
 mod blocks;
 mod callers;
 mod colors;
+mod pens;
 mod replaces;
 mod requests;
 mod writers;
