@@ -10,7 +10,8 @@ use ansi_calls::safe::sanitize;
 use ansi_calls::searches::{find, starts_with};
 use ansi_calls::texts::{cut, strip, trim};
 use ansi_io::fake_device::FakeDevice;
-use ansi_str::get_blocks;
+use ansi_restyle::AnsiRestyle;
+use ansi_str::{AnsiStr, get_blocks};
 use ansi_view_runs::runs::run;
 use std::alloc::{AllocError, Global};
 use std::fmt::Write;
@@ -62,7 +63,8 @@ impl Bench {
         self.wrap()?;
         self.fields()?;
         self.blocks()?;
-        self.awkward()
+        self.awkward()?;
+        self.marked()
     }
 
     /// A table: the width of each of 1,024 cells, and then each cell cut or filled to its column.
@@ -223,6 +225,42 @@ impl Bench {
         self.add_blocks(line.as_str())
     }
 
+    /// A search marked in the lines of a log, and in a log as one line; and the HTML of what was
+    /// marked.
+    pub(crate) fn marked(&mut self) -> Result<(), AllocError> {
+        for _ in 0..1024 {
+            let line = self.texts.log_line()?;
+            self.add_marked(line.as_str())?;
+        }
+        let line = self.texts.one_line(1024)?;
+        self.add_marked(line.as_str())
+    }
+
+    /// The HTML of a text in which the matches of a word are marked.
+    fn add_marked(&mut self, text: &str) -> Result<(), AllocError> {
+        if let Some(marked) = text.ansi_mark(self.alloc, "in", "7")? {
+            self.digest.add_bytes(marked.as_str().as_bytes());
+            self.add_html(marked.as_str())?;
+        }
+        Ok(())
+    }
+
+    /// The blocks of a text as HTML, with what is bold and what is inverse.
+    fn add_html(&mut self, text: &str) -> Result<(), AllocError> {
+        let mut out = String::with_capacity(self.alloc, 1024)?;
+        for block in get_blocks(self.alloc, text) {
+            let block = block?;
+            let (is_bold, is_inverse) = (block.style().is_bold(), block.style().is_inverse());
+            out.push_str(if is_bold { "<b>" } else { "" })?;
+            out.push_str(if is_inverse { "<mark>" } else { "" })?;
+            push_escaped(&mut out, block.text().ansi_strip(self.alloc)?.as_str())?;
+            out.push_str(if is_inverse { "</mark>" } else { "" })?;
+            out.push_str(if is_bold { "</b>" } else { "" })?;
+        }
+        self.digest.add_bytes(out.as_bytes());
+        Ok(())
+    }
+
     /// A text measured, cut, wrapped, sanitized, stripped and trimmed.
     fn show(&mut self, text: &str) {
         let text = text.as_bytes();
@@ -303,6 +341,19 @@ impl Bench {
             self.digest.add(*end);
         }
     }
+}
+
+/// Appends a text as HTML.
+fn push_escaped(out: &mut String, text: &str) -> Result<(), AllocError> {
+    for character in text.chars() {
+        match character {
+            '&' => out.push_str("&amp;")?,
+            '<' => out.push_str("&lt;")?,
+            '>' => out.push_str("&gt;")?,
+            _ => out.push(character)?,
+        }
+    }
+    Ok(())
 }
 
 fn step<'a>(kind: u32, first: usize, second: usize, pattern: &'a [u8]) -> EditStep<'a> {

@@ -31,6 +31,7 @@ fn main(rt: HostRuntime) -> anyhow::Result<()> {
             "fields" => bench.fields()?,
             "blocks" => bench.blocks()?,
             "awkward" => bench.awkward()?,
+            "marked" => bench.marked()?,
             "all" => bench.all()?,
             _ => bail!("there is no such job"),
         }
