@@ -7,3 +7,4 @@ pub mod Removed
 pub mod Replaced
 pub mod ReplacedAll
 pub mod Links
+pub mod Styles

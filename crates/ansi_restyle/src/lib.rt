@@ -15,5 +15,6 @@ pub mod replace;
 pub mod replace_all;
 mod rest;
 pub mod restyle;
+pub mod styles;
 
 pub use calls::AnsiRestyle;

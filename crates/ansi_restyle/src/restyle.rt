@@ -123,7 +123,7 @@ fn matches_of<A: Allocator>(
 }
 
 /// Whether the text is a list of SGR codes.
-fn is_change(codes: &str) -> bool
+pub(crate) fn is_change(codes: &str) -> bool
     ensures { result ≡ is_change codes.now }
 {
     codes
@@ -163,7 +163,7 @@ pub(crate) fn are_in_turn(text: &str, ranges: &[(usize, usize)]) -> bool
 }
 
 /// The SGR with these codes.
-fn sequence_of<A: Allocator>(alloc: A, codes: &str) -> Result<String<A>, AllocError>
+pub(crate) fn sequence_of<A: Allocator>(alloc: A, codes: &str) -> Result<String<A>, AllocError>
     ensures { IfOk result (λ s. string_bytes s ≡ written codes.now) }
 {
     let mut sequence = String::new(alloc);
