@@ -23,3 +23,4 @@ pub mod WithoutLinksLemmas
 pub mod AddressLemmas
 pub mod LinkWalkLemmas
 pub mod LinkRangeLemmas
+pub mod UnionLemmas

@@ -6,6 +6,9 @@ use ansi_restyle::remove::remove_in;
 use ansi_restyle::replace::{insert_in, replace_in};
 use ansi_restyle::replace_all::replace_all_in;
 use ansi_restyle::restyle::{mark_in, restyle_in};
+use ansi_restyle::styles::{style_of, union};
+use ansi_str::Color;
+use std::test::Fail;
 
 #[test]
 fn matches_example(rt: HostRuntime) {
@@ -180,4 +183,21 @@ fn ansi_link_example(rt: HostRuntime) {
         matches!(&linked, Ok(Some(linked)) if linked.as_str() == "see \x1b[1m\x1b]8;;http://x\x1b\\here\x1b]8;;\x1b\\")
     );
     assert!(rt; matches!("here".ansi_link(rt.alloc(), (0, 4), "a\nb"), Ok(None)));
+}
+
+#[test]
+fn style_of_example(rt: HostRuntime) {
+    let style = style_of(rt.alloc(), "1;31");
+    assert!(rt;
+        matches!(&style, Ok(Some(style)) if style.is_bold() && style.foreground() == Some(Color::Red))
+    );
+}
+
+#[test]
+fn union_example(rt: HostRuntime) -> Result<(), Fail> {
+    let bold_red = style_of(rt.alloc(), "1;31")?.ok_or("no codes")?;
+    let blue = style_of(rt.alloc(), "34")?.ok_or("no codes")?;
+    let both = union(rt.alloc(), &bold_red, &blue)?;
+    assert!(rt; both.is_bold() && both.foreground() == Some(Color::Blue));
+    Ok(())
 }

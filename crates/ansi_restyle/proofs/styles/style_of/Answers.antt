@@ -1,6 +1,5 @@
-use Rattle.std.proofs.Common.{◌≡◌, sym, ◌∙◌, ap, subst, IsTrue}
+use Rattle.std.proofs.Common.{sym, ◌∙◌, subst, IsTrue}
 use Rattle.ansi_items.specs.Sequences.{is_sgr}
-use Rattle.ansi_style.specs.Written.{written}
 use Rattle.ansi_restyle.proofs.OtherLemmas.{change_is_sgr}
 use Rattle.ansi_restyle.proofs.styles.style_of.Goals as goal
 
