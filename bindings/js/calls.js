@@ -426,7 +426,7 @@ function colorCode(name, color, extended, firstOfNames) {
   return `${extended};5;${byteOf(name, color)}`;
 }
 
-/** The codes of a style: those of a string, or of an object by names. */
+/** The codes of a style: those of a string, or of an object by names, which may be the style of a block. */
 function codesOf(style) {
   if (typeof style === 'string') {
     if (!/^[0-9:;]*$/.test(style)) {
@@ -437,7 +437,8 @@ function codesOf(style) {
   if (typeof style !== 'object' || style === null) {
     throw new TypeError('the style must be a string or an object');
   }
-  const { foreground = null, background = null, underlineColor = null, font = null, ...attributes } = style;
+  const { foreground = null, background = null, underlineColor = null, font = null, ...names } = style;
+  const attributes = Array.isArray(names.attributes) ? Object.fromEntries(names.attributes.map((name) => [name, true])) : names;
   const unknown = Object.keys(attributes).find((name) => !ATTRIBUTES.includes(name));
   if (unknown !== undefined) {
     throw new TypeError(`the style has no attribute ${unknown}: they are ${ATTRIBUTES.join(', ')}`);

@@ -61,8 +61,8 @@ export function findFrom(text: string, position: number, pattern: string): numbe
  */
 export function matches(text: string, pattern: string): [number, number][];
 
-/** A style by the SGR codes that set it, as an SGR has them, such as `1;31`; or by names. */
-export type Change = string | StyleNames;
+/** A style by the SGR codes that set it, as an SGR has them, such as `1;31`; by names; or as `blocks` returns it. */
+export type Change = string | StyleNames | Style;
 
 /**
  * The attributes that are set, colors, and a font by its code, from 10 to 19. A color is by its name, by its number of 256, or by red, green
@@ -172,6 +172,9 @@ export interface Style {
   attributes: Attribute[];
   foreground: Color;
   background: Color;
+  underlineColor: Color;
+  /** The font by its code, from 11 to 19; null if none is set. */
+  font: number | null;
   /** Whether the style has something to close. */
   hasAny: boolean;
   /** The sequences that set the style, and those that close it. */

@@ -430,6 +430,8 @@ function styleAt(frame, at, start, end) {
     attributes: ATTRIBUTES.filter((_, bit) => attributes & (1 << bit)),
     foreground: colorAt(frame, at + 4),
     background: colorAt(frame, at + 8),
+    underlineColor: colorAt(frame, at + 12),
+    font: frame.bytes[at + 16] ? frame.bytes[at + 17] : null,
     hasAny: end !== '',
     start,
     end,

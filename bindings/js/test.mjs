@@ -160,6 +160,25 @@ test('a style is codes or names', () => {
   assert.equal(codesOf({ underline: true, underlineColor: [97, 175, 239] }), '4;58;2;97;175;239');
   assert.equal(codesOf({ foreground: { red: 0, green: 1, blue: 255 }, underlineColor: 'brightWhite' }), '38;2;0;1;255;58;5;15');
   assert.equal(codesOf({}), '');
+  const styleAfter = (codes) => blocks(`\x1b[${codes}mx`)[0].style;
+  const style = styleAfter('3;1;34;58;2;1;2;3;12;45');
+  assert.deepEqual(style, {
+    attributes: ['bold', 'italic'],
+    foreground: 'blue',
+    background: 'magenta',
+    underlineColor: { red: 1, green: 2, blue: 3 },
+    font: 12,
+    hasAny: true,
+    start: '\x1b[1m\x1b[3m\x1b[12m\x1b[34m\x1b[45m\x1b[58;2;1;2;3m',
+    end: '\x1b[10m\x1b[22m\x1b[23m\x1b[39m\x1b[49m\x1b[59m',
+  });
+  assert.equal(codesOf(style), '1;3;12;34;45;58;2;1;2;3');
+  assert.equal(codesOf({ ...style, foreground: 208, font: null }), '1;3;38;5;208;45;58;2;1;2;3');
+  for (const codes of ['58;5;255', '11', '19', '21', '107', '38;5;0', '']) {
+    assert.equal(codesOf(styleAfter(codes)), codes);
+    assert.deepEqual([...iterBlocks(`\x1b[${codes}mx`)][0].style, styleAfter(codes));
+  }
+  assert.deepEqual([styleAfter('58;5;255').underlineColor, styleAfter('4').underlineColor, styleAfter('4').font], [255, null, null]);
   const all = ['bold', 'faint', 'italic', 'underline', 'doubleUnderline', 'slowBlink', 'rapidBlink', 'inverse', 'hide', 'crossedOut', 'framed', 'encircled',
     'fraktur', 'proportionalSpacing', 'overlined', 'ideogramUnderline', 'ideogramDoubleUnderline', 'ideogramOverline', 'ideogramDoubleOverline',
     'ideogramStressMarking', 'superscript', 'subscript'];

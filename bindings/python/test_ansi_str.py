@@ -346,6 +346,27 @@ class Arguments(unittest.TestCase):
         self.refused(ValueError, "background must have three numbers, not 2", lambda: ansi_str.codes(background=(0, 0)))
         self.refused(TypeError, "underline_color must be an int, not float", lambda: ansi_str.codes(underline_color=1.0))
 
+    def test_a_style_is_codes(self):
+        style = style_after("3;1m\x1b[34;58;2;1;2;3m\x1b[12;45")
+        self.assertEqual(style, ({"bold", "italic"}, "Blue", "Magenta", True, "\x1b[1m\x1b[3m\x1b[12m\x1b[34m\x1b[45m\x1b[58;2;1;2;3m",
+                                 "\x1b[10m\x1b[22m\x1b[23m\x1b[39m\x1b[49m\x1b[59m", (1, 2, 3), 12))
+        self.assertEqual(style.codes, "1;3;12;34;45;58;2;1;2;3")
+        self.assertEqual(style_after(style.codes), style)
+        self.assertEqual(ansi_str.mark("ab", "b", style_after("4")), "a\x1b[4mb\x1b[24m")
+        self.assertEqual(ansi_str.restyle("ab", [(0, 1)], style_after("4")._replace(underline_color="red")), "\x1b[4;58;5;1ma\x1b[24m\x1b[59mb")
+        # (a plain style has no code, so the character becomes plain)
+        self.assertEqual(style_after("0").codes, "")
+        self.assertEqual(ansi_str.mark("\x1b[1ma", "a", style_after("0")), "\x1b[1m\x1b[ma\x1b[1m")
+        for code, color in (("58;5;255", 255), ("58;2;0;1;255", (0, 1, 255))):
+            self.assertEqual([style_after(code).underline_color, style_after(code).font, style_after(code).codes], [color, None, code])
+        for font in range(11, 20):
+            self.assertEqual([style_after(font).font, style_after(font).codes], [font, str(font)])
+        for code in (1, 2, 3, 4, 5, 6, 7, 8, 9, 20, 21, 26, 30, 37, 40, 47, 51, 52, 53, 60, 61, 62, 63, 64, 73, 74, 90, 97, 100, 107):
+            self.assertEqual(style_after(code).codes, str(code))
+        self.assertNotEqual(style_after("58;5;1"), style_after("58;5;2"))
+        self.assertNotEqual(style_after(11), style_after(12))
+        self.assertEqual(style_after("1m\x1b[31"), style_after("31m\x1b[1"))
+
     def test_bytes_are_made_safe(self):
         for data in (b"caf\xe9\x1b[2J", "caf\u00e9\x1b[2J".encode(), b"", b"\xff" * 100000, bytes(range(256))):
             decoded = data.decode("utf-8", "replace")

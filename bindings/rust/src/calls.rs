@@ -59,7 +59,7 @@ pub(crate) struct RawStyle {
     pub(crate) attributes: u32,
     pub(crate) foreground: RawColor,
     pub(crate) background: RawColor,
-    underline_color: RawColor,
+    pub(crate) underline_color: RawColor,
     font: RawFont,
 }
 
@@ -1072,6 +1072,11 @@ impl RawStyle {
     /// The sequences that set the style.
     pub(crate) fn start(&self) -> String {
         self.sequences(ansi_str_raw_style_start)
+    }
+
+    /// The font by its code, if one is set.
+    pub(crate) fn font(&self) -> Option<u8> {
+        self.font.is_set.then_some(self.font.number)
     }
 
     /// The sequences that close the style.

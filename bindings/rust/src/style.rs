@@ -125,6 +125,50 @@ impl Style {
     pub fn background(&self) -> Option<Color> {
         self.0.background.color()
     }
+
+    /// The color of the underline.
+    ///
+    /// ```
+    /// use ansi_str::{get_blocks, Color};
+    /// let block = get_blocks("\x1b[4m\x1b[58;5;9mx").next().unwrap();
+    /// assert_eq!(block.style().underline_color(), Some(Color::Fixed(9)));
+    /// ```
+    #[must_use]
+    pub fn underline_color(&self) -> Option<Color> {
+        self.0.underline_color.color()
+    }
+
+    /// The font by its code, from 11 to 19.
+    ///
+    /// ```
+    /// let block = ansi_str::get_blocks("\x1b[11mx").next().unwrap();
+    /// assert_eq!(block.style().font(), Some(11));
+    /// ```
+    #[must_use]
+    pub fn font(&self) -> Option<u8> {
+        self.0.font()
+    }
+
+    /// The SGR codes that set the style, for [`ansi_restyle`](crate::restyle::AnsiRestyle::ansi_restyle) and
+    /// [`ansi_mark`](crate::restyle::AnsiRestyle::ansi_mark). It is empty for a plain style.
+    ///
+    /// ```
+    /// use ansi_str::{get_blocks, restyle::AnsiRestyle};
+    /// let block = get_blocks("\x1b[1m\x1b[31mwarning").next().unwrap();
+    /// assert_eq!(block.style().codes(), "1;31");
+    /// let marked = "a warning".ansi_mark("warning", &block.style().codes()).unwrap();
+    /// assert_eq!(marked, "a \x1b[1;31mwarning\x1b[22m\x1b[39m");
+    /// ```
+    #[must_use]
+    pub fn codes(&self) -> String {
+        let start = self.0.start();
+        // (the start has a sequence for each code)
+        let codes = start
+            .split("\x1b[")
+            .skip(1)
+            .map(|code| &code[..code.len() - 1]);
+        codes.collect::<Vec<_>>().join(";")
+    }
 }
 
 /// The tests of the attributes, by their bits.
@@ -148,8 +192,11 @@ macro_rules! attributes {
 }
 
 attributes!(
-    0 is_bold "1", 1 is_faint "2", 2 is_italic "3", 3 is_underline "4", 5 is_slow_blink "5", 6 is_rapid_blink "6",
-    7 is_inverse "7", 8 is_hide "8", 9 is_crossedout "9", 12 is_fraktur "20"
+    0 is_bold "1", 1 is_faint "2", 2 is_italic "3", 3 is_underline "4", 4 is_double_underline "21", 5 is_slow_blink "5",
+    6 is_rapid_blink "6", 7 is_inverse "7", 8 is_hide "8", 9 is_crossedout "9", 10 is_framed "51", 11 is_encircled "52",
+    12 is_fraktur "20", 13 is_proportional_spacing "26", 14 is_overlined "53", 15 is_ideogram_underline "60",
+    16 is_ideogram_double_underline "61", 17 is_ideogram_overline "62", 18 is_ideogram_double_overline "63",
+    19 is_ideogram_stress_marking "64", 20 is_superscript "73", 21 is_subscript "74"
 );
 
 impl Debug for Style {

@@ -1,6 +1,6 @@
 //! Styles compare by all their parts.
 
-use ansi_str::{get_blocks, Style};
+use ansi_str::{get_blocks, Color, Style};
 use std::collections::hash_map::DefaultHasher;
 use std::hash::{Hash, Hasher};
 
@@ -59,4 +59,25 @@ fn a_reset_counts() {
     let (bold, reset) = (style_after("\x1b[1m"), style_after("\x1b[0;1m"));
     assert_eq!(printed(&bold), printed(&reset));
     assert!(bold < reset);
+}
+
+#[test]
+fn a_style_tells_its_codes() {
+    let style = style_after("\x1b[3;1m\x1b[34;58;2;1;2;3m\x1b[12;45m");
+    assert_eq!(style.codes(), "1;3;12;34;45;58;2;1;2;3");
+    assert_eq!(style_after(&format!("\x1b[{}m", style.codes())), style);
+    assert_eq!(style.underline_color(), Some(Color::Rgb(1, 2, 3)));
+    assert_eq!(style.font(), Some(12));
+    let plain = style_after("");
+    assert_eq!(
+        (
+            plain.codes().as_str(),
+            plain.underline_color(),
+            plain.font()
+        ),
+        ("", None, None)
+    );
+    for codes in ["1", "19", "21", "74", "107", "38;5;0", "58;5;255"] {
+        assert_eq!(style_after(&format!("\x1b[{codes}m")).codes(), codes);
+    }
 }

@@ -91,8 +91,8 @@ if sys.version_info >= (3, 8):
 else:
     Alignment = Side = str
 
-# the attributes; the colors of the text and behind it, each a kind and three numbers; and more that `Style` doesn't have
-_STYLE = struct.Struct("=I4B4B")
+# the attributes; the colors of the text, behind it and of its underline, each a kind and three numbers; whether there is a font; and the font
+_STYLE = struct.Struct("=I4B4B4B?B")
 
 # the kinds of edits, the last position, and the questions about a text
 (_CUT, _LEFT, _RIGHT, _PART, _PREFIX, _SUFFIX, _TRIM, _TRUNCATE, _FIT, _PAD, _SANITIZE, _LINK_AT, _SLICE, _EXPAND_TABS,
@@ -613,14 +613,14 @@ def codes(*, foreground: Optional[Color] = None, background: Optional[Color] = N
     return ";".join(given)
 
 
-def _given_codes(style: str) -> bytes:
-    data = _utf8("style", style)
+def _given_codes(style: Union[str, "Style"]) -> bytes:
+    data = _utf8("style", style.codes if isinstance(style, Style) else style)
     if data.strip(b"0123456789:;"):
         raise ValueError("style must have only digits, ';' and ':', not {!r}".format(style))
     return data
 
 
-def mark(text: str, pattern: str, style: str) -> str:
+def mark(text: str, pattern: str, style: Union[str, "Style"]) -> str:
     """The text with each match of a pattern, as `matches` finds them, in a style, as `restyle` makes it.
 
     >>> mark("to do: \\x1b[1mdo", "do", "7")
@@ -629,10 +629,10 @@ def mark(text: str, pattern: str, style: str) -> str:
     return _library.mark(_utf8("text", text), _utf8("pattern", pattern), _given_codes(style))  # type: ignore[no-any-return]
 
 
-def restyle(text: str, ranges: Iterable[Tuple[int, int]], style: str) -> str:
+def restyle(text: str, ranges: Iterable[Tuple[int, int]], style: Union[str, "Style"]) -> str:
     """The text with SGR codes applied to each character in ranges: pairs of positions in order, which don't overlap. The style is
-    the codes as an SGR has them, such as `1;31`, or as `codes` makes them. Each character there has its own style after them: so
-    `1` makes it bold and keeps its color, `22` makes it neither bold nor faint, and `0` or no code makes it plain. Every other
+    the codes as an SGR has them, such as `1;31`, or as `codes` makes them, or a `Style`. Each character there has its own style
+    after them: so `1` makes it bold and keeps its color, `22` makes it neither bold nor faint, and `0` or no code makes it plain. Every other
     character keeps its style; the plain text and every other sequence stay. ValueError: the style has anything but digits, `;`
     and `:`, or a range begins before the one before it ends, ends below its start, or ends past the end of the plain text.
 
@@ -754,14 +754,34 @@ def split(text: str, pattern: str) -> List[str]:
 
 
 class Style(NamedTuple):
-    """The style of a block: the names of its attributes, its colors, whether it has something to close, and the sequences that
-    set it and close it. A color is a name, a number among 256, its red, green and blue, or None."""
+    """The style of a block: the names of its attributes, its colors, whether it has something to close, the sequences that set it
+    and close it, its underline's color, and its font. A color is a name, a number among 256, its red, green and blue, or None.
+    The font is its code, from 11 to 19, or None. `mark` and `restyle` accept a style in place of codes.
+
+    >>> warning = blocks("\\x1b[1;31mwarning")[0].style
+    >>> mark("a warning", "warning", warning)
+    'a \\x1b[1;31mwarning\\x1b[22m\\x1b[39m'
+    >>> mark("a warning", "warning", warning._replace(foreground=208))
+    'a \\x1b[1;38;5;208mwarning\\x1b[22m\\x1b[39m'
+    """
     attributes: FrozenSet[str]
-    foreground: Union[str, int, Tuple[int, int, int], None]
-    background: Union[str, int, Tuple[int, int, int], None]
+    foreground: Optional[Color]
+    background: Optional[Color]
     has_any: bool
     start: str
     end: str
+    underline_color: Optional[Color] = None
+    font: Optional[int] = None
+
+    @property
+    def codes(self) -> str:
+        """The SGR codes that set the style, as the function `codes` makes them of its names. A plain style has no code.
+
+        >>> blocks("\\x1b[1;4m\\x1b[58;5;9mtext")[0].style.codes
+        '1;4;58;5;9'
+        """
+        return codes(foreground=self.foreground, background=self.background, underline_color=self.underline_color,
+                     font=self.font, **{name: True for name in self.attributes})
 
 
 class Block(NamedTuple):
@@ -773,7 +793,7 @@ class Block(NamedTuple):
     sequences: str
 
 
-def _color_of(kind: int, first: int, second: int, third: int) -> Union[str, int, Tuple[int, int, int], None]:
+def _color_of(kind: int, first: int, second: int, third: int) -> Optional[Color]:
     if kind == _NO_COLOR:
         return None
     if kind == _NAMED:
@@ -784,7 +804,8 @@ def _color_of(kind: int, first: int, second: int, third: int) -> Union[str, int,
 def _style_of(data: bytes, start: str, end: str) -> Style:
     fields = _STYLE.unpack_from(data)
     names = frozenset(name for bit, name in enumerate(ATTRIBUTES) if fields[0] >> bit & 1)
-    return Style(names, _color_of(*fields[1:5]), _color_of(*fields[5:9]), end != "", start, end)
+    colors = [_color_of(*fields[first:first + 4]) for first in (1, 5, 9)]
+    return Style(names, colors[0], colors[1], end != "", start, end, colors[2], fields[14] if fields[13] else None)
 
 
 # a character that no sequence before it takes in, nor another such character joins; and what closes a link (OSC 8)
