@@ -437,8 +437,9 @@ function codesOf(style) {
   if (typeof style !== 'object' || style === null) {
     throw new TypeError('the style must be a string or an object');
   }
-  const { foreground = null, background = null, underlineColor = null, font = null, ...names } = style;
-  const attributes = Array.isArray(names.attributes) ? Object.fromEntries(names.attributes.map((name) => [name, true])) : names;
+  // (the last three tell nothing that the others don't)
+  const { foreground = null, background = null, underlineColor = null, font = null, attributes: set = [], hasAny, start, end, ...names } = style;
+  const attributes = { ...Object.fromEntries(Array.from(set, (name) => [name, true])), ...names };
   const unknown = Object.keys(attributes).find((name) => !ATTRIBUTES.includes(name));
   if (unknown !== undefined) {
     throw new TypeError(`the style has no attribute ${unknown}: they are ${ATTRIBUTES.join(', ')}`);

@@ -173,7 +173,7 @@ test('a style is codes or names', () => {
     end: '\x1b[10m\x1b[22m\x1b[23m\x1b[39m\x1b[49m\x1b[59m',
   });
   assert.equal(codesOf(style), '1;3;12;34;45;58;2;1;2;3');
-  assert.equal(codesOf({ ...style, foreground: 208, font: null }), '1;3;38;5;208;45;58;2;1;2;3');
+  assert.equal(codesOf({ ...style, foreground: 208, font: null, bold: false, hide: true }), '3;8;38;5;208;45;58;2;1;2;3');
   for (const codes of ['58;5;255', '11', '19', '21', '107', '38;5;0', '']) {
     assert.equal(codesOf(styleAfter(codes)), codes);
     assert.deepEqual([...iterBlocks(`\x1b[${codes}mx`)][0].style, styleAfter(codes));

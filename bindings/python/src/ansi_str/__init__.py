@@ -91,7 +91,7 @@ if sys.version_info >= (3, 8):
 else:
     Alignment = Side = str
 
-# the attributes; the colors of the text, behind it and of its underline, each a kind and three numbers; whether there is a font; and the font
+# the attributes; the colors of the text, behind it and of its underline, each a kind and three numbers; whether a font is set, and it
 _STYLE = struct.Struct("=I4B4B4B?B")
 
 # the kinds of edits, the last position, and the questions about a text
@@ -632,9 +632,10 @@ def mark(text: str, pattern: str, style: Union[str, "Style"]) -> str:
 def restyle(text: str, ranges: Iterable[Tuple[int, int]], style: Union[str, "Style"]) -> str:
     """The text with SGR codes applied to each character in ranges: pairs of positions in order, which don't overlap. The style is
     the codes as an SGR has them, such as `1;31`, or as `codes` makes them, or a `Style`. Each character there has its own style
-    after them: so `1` makes it bold and keeps its color, `22` makes it neither bold nor faint, and `0` or no code makes it plain. Every other
-    character keeps its style; the plain text and every other sequence stay. ValueError: the style has anything but digits, `;`
-    and `:`, or a range begins before the one before it ends, ends below its start, or ends past the end of the plain text.
+    after them: so `1` makes it bold and keeps its color, `22` makes it neither bold nor faint, and `0` or no code makes it
+    plain. Every other character keeps its style; the plain text and every other sequence stay. ValueError: the style has
+    anything but digits, `;` and `:`, or a range begins before the one before it ends, ends below its start, or ends past the
+    end of the plain text.
 
     >>> restyle("red \\x1b[31mred", [(0, 2), (5, 6)], "4")
     '\\x1b[4mre\\x1b[24md \\x1b[31mr\\x1b[4me\\x1b[24m\\x1b[39m\\x1b[31md'
