@@ -8,7 +8,6 @@ ghost use Rattle.ansi_restyle.specs.Ranges.{are_in_turn};
 
 use crate::rest::Rest;
 use ansi_search::search;
-use ansi_style::styles;
 use std::marker::Model;
 
 /// The matches of a pattern in a text, in order, as pairs of positions: where each begins and ends,
@@ -74,8 +73,7 @@ impl<'t, 'p> Iterator for Matches<'t, 'p> {
         let Some(place) = self.rest.find(self.pat, self.from) else {
             return None;
         };
-        let mut style = styles::plain_style();
-        self.rest = self.rest.split_at(&mut style, place).unwrap().rest;
+        self.rest = self.rest.divide(place).unwrap().rest;
         self.position += place;
         self.from = self.pat.len().max(1);
         Some((self.position, self.position + self.pat.len()))

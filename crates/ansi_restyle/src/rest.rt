@@ -1,10 +1,11 @@
 //! What is left of a text.
-ghost use Rattle.std.specs.Prelude.{◌≡◌, take, drop, length, IfSome, IsFalse, IsTrue};
+ghost use Rattle.std.specs.Prelude.{◌≡◌, ◌<◌, take, drop, length, IfSome, IsFalse, IsTrue};
 ghost use Rattle.std.specs.Option.{MatchOption};
 ghost use Rattle.std.specs.Str.{IsCharBoundary};
 ghost use Rattle.ansi_items.specs.Plain.{plain, has_escape};
 ghost use Rattle.ansi_search.specs.Matches.{first_match_from};
-ghost use Rattle.ansi_search.specs.Positions.{is_char_boundary, no_character_goes_on};
+ghost use Rattle.ansi_search.specs.Offsets.{StandsIn};
+ghost use Rattle.ansi_search.specs.Positions.{is_char_boundary, is_good_position, no_character_goes_on};
 ghost use Rattle.ansi_style.specs.Reading.{style_within};
 ghost use Rattle.ansi_style.specs.States.{rendition_of};
 ghost use Rattle.ansi_restyle.specs.Replaced.{place_of};
@@ -55,7 +56,22 @@ impl<'t> Rest<'t> {
     }
 
     /// The text in two at a position of what is left, or `None` if the position isn't good. A
-    /// position past the end counts as the end. Every SGR up to there changes the style.
+    /// position past the end counts as the end.
+    pub(crate) fn divide(&self, position: usize) -> Option<Divided<'t>>
+        ensures { MatchOption result
+            (IsFalse (no_character_goes_on (plain self.now.text.now) position)) (λ d.
+            IsDivided self.now.text.now position d.front.now d.rest.text.now) }
+    {
+        if position < self.run_len {
+            return self.divide_run(position);
+        }
+        let Some(offset) = offset_at(self.text, position) else {
+            return None;
+        };
+        Some(divide_at(self.text, offset))
+    }
+
+    /// The same. Every SGR up to there changes the style.
     pub(crate) fn split_at(&self, style: &mut Style, position: usize) -> Option<Divided<'t>>
         ensures divided { MatchOption result
             (IsFalse (no_character_goes_on (plain self.now.text.now) position)) (λ d.
@@ -64,19 +80,27 @@ impl<'t> Rest<'t> {
             ≡ style_within (rendition_of style.old) self.now.text.now position) }
     {
         if position < self.run_len {
-            if !self.text.is_char_boundary(position) {
-                return None;
-            }
-            let (front, text) = self.text.split_at(position);
-            let run_len = self.run_len - position;
-            let rest = Rest { text, run_len };
-            return Some(Divided { front, rest });
+            return self.divide_run(position);
         }
         let Some(offset) = search::walk_to(style, self.text, position) else {
             return None;
         };
-        let (front, text) = self.text.split_at(offset);
-        let rest = Rest::new(text);
+        Some(divide_at(self.text, offset))
+    }
+
+    /// The text in two at a position in the run at its front, or `None` if the position isn't good.
+    fn divide_run(&self, position: usize) -> Option<Divided<'t>>
+        requires { position < self.now.run_len }
+        ensures { MatchOption result
+            (IsFalse (no_character_goes_on (plain self.now.text.now) position)) (λ d.
+            IsDivided self.now.text.now position d.front.now d.rest.text.now) }
+    {
+        if !self.text.is_char_boundary(position) {
+            return None;
+        }
+        let (front, text) = self.text.split_at(position);
+        let run_len = self.run_len - position;
+        let rest = Rest { text, run_len };
         Some(Divided { front, rest })
     }
 
@@ -94,6 +118,39 @@ impl<'t> Rest<'t> {
         let (front, text) = self.text.split_at(place_of(self.text, position).offset);
         (front, Rest::new(text))
     }
+}
+
+/// The text in two at an offset.
+fn divide_at(text: &str, offset: usize) -> Divided<'_>
+    requires { IsCharBoundary text.now offset }
+    ensures front { result.front.now ≡ take offset text.now }
+    ensures rest { result.rest.text.now ≡ drop offset text.now }
+{
+    let (front, text) = text.split_at(offset);
+    let rest = Rest::new(text);
+    Divided { front, rest }
+}
+
+/// Like `ansi_search::search::walk_to`, without a style.
+fn offset_at(text: &str, position: usize) -> Option<usize>
+    ensures { MatchOption result (IsFalse (is_good_position (plain text.now) position))
+        (StandsIn text.now position) }
+{
+    let mut remaining = position;
+    for item in Scanner::new(text) {
+        let piece = &text[item.start..item.end];
+        if item.kind == Kind::Text {
+            if remaining < piece.len() {
+                let offset = item.start + remaining;
+                if !text.is_char_boundary(offset) {
+                    return None;
+                }
+                return Some(offset);
+            }
+            remaining -= piece.len();
+        }
+    }
+    Some(text.len())
 }
 
 /// How long the run at the front of a text is.

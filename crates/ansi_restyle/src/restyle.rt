@@ -143,17 +143,16 @@ fn are_empty(ranges: &[(usize, usize)]) -> bool
 pub(crate) fn are_in_turn(text: &str, ranges: &[(usize, usize)]) -> bool
     ensures { result ≡ are_in_turn (plain text.now) 0 ranges.now }
 {
-    let mut style = styles::plain_style();
     let mut rest = Rest::new(text);
     let mut place = 0;
     for &(start, end) in ranges {
         if start < place || end < start {
             return false;
         }
-        let Some(at_start) = rest.split_at(&mut style, start - place) else {
+        let Some(at_start) = rest.divide(start - place) else {
             return false;
         };
-        let Some(at_end) = at_start.rest.split_at(&mut style, end - start) else {
+        let Some(at_end) = at_start.rest.divide(end - start) else {
             return false;
         };
         rest = at_end.rest;

@@ -9,17 +9,17 @@ pub loop-start-init : goal.loop-start-init
 loop-start-init c = rw c.new-rest.ensures (turn-begin c.args.text.now c.args.ranges.now (IsUtf8-plain c.args.text.now c.utf8.text))
 
 -- a character goes on at the end of the range
-pub returns-in_default-split_at : goal.returns-in_default-split_at
-returns-in_default-split_at c =
+pub returns-in_default-divide : goal.returns-in_default-divide
+returns-in_default-divide c =
     let all = c.args.ranges.now in
     let i = c.loop-start.start-index in
-    turn-bad_end c.loop-start.invariant (slice_index_or all i (0, 0)) (drop (i + 1) all) (drop_more all i (0, 0) c.loop-start-test.true) c.if-start-place.false c.if-end-start.false c.in-Some.ensures.divided
-    c.in_default-split_at.ensures.divided
+    turn-bad_end c.loop-start.invariant (slice_index_or all i (0, 0)) (drop (i + 1) all) (drop_more all i (0, 0) c.loop-start-test.true) c.if-start-place.false c.if-end-start.false c.in-Some.ensures
+    c.in_default-divide.ensures
 
 -- over a good range
 pub loop-start-preserved : goal.loop-start-preserved
 loop-start-preserved c =
     let all = c.args.ranges.now in
     let i = c.loop-start.start-index in
-    turn-step c.loop-start.invariant (slice_index_or all i (0, 0)) (drop (i + 1) all) (drop_more all i (0, 0) c.loop-start-test.true) c.if-start-place.false c.if-end-start.false c.in-Some.ensures.divided
-    c.in-Some-split_at.ensures.divided
+    turn-step c.loop-start.invariant (slice_index_or all i (0, 0)) (drop (i + 1) all) (drop_more all i (0, 0) c.loop-start-test.true) c.if-start-place.false c.if-end-start.false c.in-Some.ensures
+    c.in-Some-divide.ensures

@@ -18,7 +18,7 @@ returns-in_default-clause-steps c =
 pub unwrap-requires : goal.unwrap-requires
 unwrap-requires c =
     let s = c.self.inside in
-    some_if_good c.split_at.result _ _ c.split_at.ensures.divided (match_begins_good (plain s.rest.text.now) s.pat.now s.from c.in-Some.place (sym c.in-Some.ensures))
+    some_if_good c.divide.result _ _ c.divide.ensures (match_begins_good (plain s.rest.text.now) s.pat.now s.from c.in-Some.place (sym c.in-Some.ensures))
 
 pub overflow_add-self : goal.overflow_add-self
 overflow_add-self c =
@@ -39,7 +39,7 @@ invariant_of-self c =
     let s = c.self.inside in
     let x = plain s.rest.text.now in
     let m = c.in-Some.place in
-    let divided : IsDivided s.rest.text.now m c.unwrap.result.front.now c.unwrap.result.rest.text.now = rw c.unwrap.ensures at c.split_at.ensures.divided in
+    let divided : IsDivided s.rest.text.now m c.unwrap.result.front.now c.unwrap.result.rest.text.now = rw c.unwrap.ensures at c.divide.ensures in
     let within = match_within x s.pat.now s.from m (sym c.in-Some.ensures) in
     omega (arith, c.self.invariant, ap length (IsDivided-plain divided), length-drop m x, within)
 
@@ -50,7 +50,7 @@ returns-clause-steps c =
     let x = plain s.rest.text.now in
     let p = s.pat.now in
     let m = c.in-Some.place in
-    let divided : IsDivided s.rest.text.now m c.unwrap.result.front.now c.unwrap.result.rest.text.now = rw c.unwrap.ensures at c.split_at.ensures.divided in
+    let divided : IsDivided s.rest.text.now m c.unwrap.result.front.now c.unwrap.result.rest.text.now = rw c.unwrap.ensures at c.divide.ensures in
     sym c.self.view_is ∙ matches_left-first n x p s.from m (sym c.in-Some.ensures)
     ∙ ap₂ (λ y k. (n + m, n + m + length p) ∷ matches_left (n + m) y p k) (sym (IsDivided-plain divided)) (sym c.max-self-inside.ensures)
 
