@@ -57,13 +57,8 @@ pub fn restyle_in<'t, A: Allocator + Copy>(
     if !is_change(codes) || !are_in_turn(text, ranges) {
         return Ok(None);
     }
-    if are_empty(ranges) {
-        return Ok(Some(CowStr::Borrowed(text)));
-    }
-    let change = sequence_of(alloc, codes)?;
-    let mut restyled = String::with_capacity(alloc, text.len())?;
-    push_restyled(&mut restyled, text, ranges, change.as_str())?;
-    Ok(Some(CowStr::Owned(restyled)))
+    let restyled = restyled_in(alloc, text, ranges, codes)?;
+    Ok(Some(restyled))
 }
 
 /// Like `AnsiRestyle::ansi_mark`, with a result that lives as long as the text, and with any
@@ -102,7 +97,39 @@ pub fn mark_in<'t, A: Allocator + Copy>(
         return Ok(Some(CowStr::Borrowed(text)));
     }
     let ranges = matches_of(alloc, text, pat)?;
-    restyle_in(alloc, text, ranges.as_slice(), codes)
+    let marked = restyled_in(alloc, text, ranges.as_slice(), codes)?;
+    Ok(Some(marked))
+}
+
+/// A text with a change in ranges, borrowed if each of them is empty.
+fn restyled_in<'t, A: Allocator + Copy>(
+    alloc: A,
+    text: &'t str,
+    ranges: &[(usize, usize)],
+    codes: &str,
+) -> Result<CowStr<'t, A>, AllocError>
+    requires change { IsTrue (is_change codes.now) }
+    requires ranges { IsTrue (are_in_turn (plain text.now) 0 ranges.now) }
+    ensures headline { IsTrue (is_whole text.now) → IfOk result (λ c.
+        IsRestyled text.now (written codes.now) ranges.now (cow_str_bytes c)) }
+    ensures bytes { IfOk result (λ c.
+        cow_str_bytes c ≡ restyled text.now (written codes.now) ranges.now) }
+    ensures borrowed { IfOk result (λ c. IsBorrowedStr c ↔ IsTrue (are_empty ranges.now)) }
+    ensures len { IfOk result (λ c. length (cow_str_bytes c) ≤ length text.now
+        + (length codes.now + 254)
+        * (length ranges.now + length (filter is_text (pieces_of text.now)) - 1)) }
+    ensures safe { (links : Links) → IsTrue (is_safe links text.now) →
+        IsTrue (keep_line_ends (plain text.now) ranges.now) →
+        IfOk result (λ c. IsTrue (is_safe links (cow_str_bytes c))) }
+    ensures takes_no_memory { IsTrue (are_empty ranges.now) → IsOk result }
+{
+    if are_empty(ranges) {
+        return Ok(CowStr::Borrowed(text));
+    }
+    let change = sequence_of(alloc, codes)?;
+    let mut restyled = String::with_capacity(alloc, text.len())?;
+    push_restyled(&mut restyled, text, ranges, change.as_str())?;
+    Ok(CowStr::Owned(restyled))
 }
 
 /// The matches of a pattern in a text.

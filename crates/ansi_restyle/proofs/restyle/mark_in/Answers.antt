@@ -47,4 +47,4 @@ pub returns-clause-safe : goal.returns-clause-safe
 returns-clause-safe g c =
     let x = plain c.args.text.now in
     let is = c.as_slice.ensures.value ∙ c.in_ok-ranges.ensures.matches in
-    λ links safe kept. c.restyle_in.ensures.safe links safe (subst (λ rs. IsTrue (keep_line_ends x rs)) (sym is) kept)
+    λ links safe kept. c.in_ok-marked.ensures.safe links safe (subst (λ rs. IsTrue (keep_line_ends x rs)) (sym is) kept)
