@@ -20,6 +20,7 @@ pub mod ReplacedLemmas
 pub mod ReplacedAllLemmas
 pub mod ReplaceLawLemmas
 pub mod WithoutLinksLemmas
+pub mod SafeEditLemmas
 pub mod AddressLemmas
 pub mod LinkWalkLemmas
 pub mod LinkRangeLemmas

@@ -145,11 +145,11 @@ parts-after w y n past apart = elim (cases_lt (length w) n) [
 -- Good pieces.
 
 module _ (links : Links) where
-  one_text_good : (v : List ℕ) → list_all is_plain_byte v ≡ true → IsUtf8 v → all_allowed (chars v) ≡ true → AreGood links (one_text v)
+  pub one_text_good : (v : List ℕ) → list_all is_plain_byte v ≡ true → IsUtf8 v → all_allowed (chars v) ≡ true → AreGood links (one_text v)
   one_text_good [] bare utf8 all = tt
   one_text_good (b ∷ v) bare utf8 all = ((λ e. cc, bare, utf8, all), tt)
 
-  front_good : (n : ℕ) (ps : List Piece) → AreGood links ps → no_character_goes_on (plain_of ps) n ≡ true → parts_line_end (plain_of ps) n ≡ false → AreGood links (front_pieces n ps)
+  pub front_good : (n : ℕ) (ps : List Piece) → AreGood links ps → no_character_goes_on (plain_of ps) n ≡ true → parts_line_end (plain_of ps) n ≡ false → AreGood links (front_pieces n ps)
   front_good n [] good here apart = tt
   front_good n (Text w ∷ ps) good here apart = elim (cases_lt n (length w)) [
     | inl last ↦ (
@@ -165,7 +165,7 @@ module _ (links : Links) where
   front_good n (Sequence w ∷ ps) good here apart = (good.0, front_good n ps good.1 here apart)
   front_good n (LoneEscape ∷ ps) good here apart = absurd good.0
 
-  after_good : (n : ℕ) (ps : List Piece) → AreGood links ps → no_character_goes_on (plain_of ps) n ≡ true → AreGood links (after_of n ps)
+  pub after_good : (n : ℕ) (ps : List Piece) → AreGood links ps → no_character_goes_on (plain_of ps) n ≡ true → AreGood links (after_of n ps)
   after_good n [] good here = tt
   after_good n (Text w ∷ ps) good here = elim (cases_lt n (length w)) [
     | inl last ↦ (
@@ -181,7 +181,7 @@ module _ (links : Links) where
   sgr_stays : (codes : List ℕ) → is_change codes ≡ true → may_stay links (Sequence (written codes)) ≡ true
   sgr_stays codes is = ap (λ b. b || (keeps_links links && is_clean_link (written codes))) (change_is_sgr codes is)
 
-  codes_good : (xs : List (List ℕ)) → list_all is_change xs ≡ true → AllStandAnywhere (code_pieces xs) → AreGood links (code_pieces xs)
+  pub codes_good : (xs : List (List ℕ)) → list_all is_change xs ≡ true → AllStandAnywhere (code_pieces xs) → AreGood links (code_pieces xs)
   codes_good [] each stand = tt
   codes_good (x ∷ xs) each stand =
       let both = and_parts (is_change x) (list_all is_change xs) each in
@@ -199,12 +199,12 @@ module _ (links : Links) where
   changed_good codes s (LoneEscape ∷ ps) change is good = absurd good.0
 
   -- the text u is made of good pieces
-  record IsMade (u : List ℕ) : Type 0 where
-    pieces : List Piece
-    bytes : spelled pieces ≡ u
-    good : AreGood links pieces
+  pub record IsMade (u : List ℕ) : Type 0 where
+    pub pieces : List Piece
+    pub bytes : spelled pieces ≡ u
+    pub good : AreGood links pieces
 
-  made-append : {u v : List ℕ} → IsMade u → IsMade v → IsMade (u ++ v)
+  pub made-append : {u v : List ℕ} → IsMade u → IsMade v → IsMade (u ++ v)
   made-append first second = record {
     pieces = first.pieces ++ second.pieces;
     bytes = flat_map-append spelling first.pieces second.pieces ∙ ap₂ (λ x y. x ++ y) first.bytes second.bytes;
@@ -260,7 +260,7 @@ module _ (links : Links) where
       } in
       made-append (made-append one two) (restyled_made x codes change rs r.1 after last is_last good_after plain_after first.later parts.2)
 
-  safe_good : (t : List ℕ) (ps : List Piece) → ArePieces t ps → IsUtf8 t → list_all (may_stay links) ps ≡ true → AreGood links ps
+  pub safe_good : (t : List ℕ) (ps : List Piece) → ArePieces t ps → IsUtf8 t → list_all (may_stay links) ps ≡ true → AreGood links ps
   safe_good t [] are utf8 all = tt
   safe_good t (p ∷ ps) are utf8 all =
       let both = and_parts (may_stay links p) (list_all (may_stay links) ps) all in

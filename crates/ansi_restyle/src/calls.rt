@@ -13,7 +13,7 @@ ghost use Rattle.ansi_style.specs.Written.{written};
 ghost use Rattle.ansi_restyle.specs.Links.{has_link, links, without_links, IsWithoutLinks};
 ghost use Rattle.ansi_restyle.specs.Links.{is_clean_address, with_link, IsLinked};
 ghost use Rattle.ansi_restyle.specs.Matches.{matches};
-ghost use Rattle.ansi_restyle.specs.Ranges.{are_in_turn, are_empty, keep_line_ends};
+ghost use Rattle.ansi_restyle.specs.Ranges.{are_in_turn, are_empty, keep_line_ends, parts_line_end};
 ghost use Rattle.ansi_restyle.specs.Removed.{removed, IsRemoved};
 ghost use Rattle.ansi_restyle.specs.Replaced.{replaced, IsReplaced};
 ghost use Rattle.ansi_restyle.specs.ReplacedAll.{replaced_all, IsReplacedAll};
@@ -179,6 +179,9 @@ pub trait AnsiRestyle: AnsiStr {
     /// `ansi_restyle` would refuse the range: if it ends before it begins, or a position of it is
     /// past the end of the plain text or inside a character.
     ///
+    /// If the text is safe (`ansi_is_safe`), so is the result, unless the range begins between a
+    /// carriage return and a line feed.
+    ///
     /// It is a borrow if the range ends where it begins. A borrow and a `None` don't allocate.
     /// Otherwise it is owned, and no longer than the text. `Err` means out of memory. Takes time in
     /// proportion to the text. (Own.)
@@ -203,6 +206,9 @@ pub trait AnsiRestyle: AnsiStr {
             IsBorrowedStr c ↔ (range.0 ≡ range.1))) }
         ensures len { IfOk result (λ o. IfSome o (λ c.
             length (cow_str_bytes c) ≤ length (Self.text self.now))) }
+        ensures safe { (links : Links) → IsTrue (is_safe links (Self.text self.now)) →
+            IsFalse (parts_line_end (plain (Self.text self.now)) range.0) → IfOk result (λ o.
+            IfSome o (λ c. IsTrue (is_safe links (cow_str_bytes c)))) }
         ensures takes_no_memory { (range.0 ≡ range.1)
             ⊎ IsFalse (are_in_turn (plain (Self.text self.now)) 0 (range ∷ [])) → IsOk result }
     {
@@ -390,6 +396,8 @@ pub trait AnsiRestyle: AnsiStr {
     /// Its link sequences (OSC 8), which open or close a link, are left out. Everything else stays as
     /// it is: the plain text, each character's style, and every other sequence at its place.
     ///
+    /// If the text is safe (`ansi_is_safe`), so is the result, also with `Links::Remove`.
+    ///
     /// It is a borrow if the text has no link sequence. A borrow doesn't allocate. Otherwise it is
     /// owned, and shorter than the text. `Err` means out of memory. Takes time in proportion to the
     /// text. (Own.)
@@ -406,6 +414,8 @@ pub trait AnsiRestyle: AnsiStr {
             IsBorrowedStr c ↔ IsFalse (has_link (Self.text self.now))) }
         ensures len { IfOk result (λ c.
             length (cow_str_bytes c) ≤ length (Self.text self.now)) }
+        ensures safe { (links other : Links) → IsTrue (is_safe links (Self.text self.now)) →
+            IfOk result (λ c. IsTrue (is_safe other (cow_str_bytes c))) }
         ensures takes_no_memory { IsFalse (has_link (Self.text self.now)) → IsOk result }
     {
         unlink_in(alloc, self.as_text())

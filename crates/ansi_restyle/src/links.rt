@@ -7,7 +7,8 @@ ghost use Rattle.std.specs.Option.{option_map};
 ghost use Rattle.ansi_items.specs.Plain.{plain, is_whole};
 ghost use Rattle.ansi_items.specs.Sequences.{IsSequence};
 ghost use Rattle.ansi_safe.specs.Links.{address_of, is_link, link_at};
-ghost use Rattle.ansi_safe.specs.Safe.{is_printable_byte};
+ghost use Rattle.ansi_safe.specs.declared.policy.Links as LinkPolicy;
+ghost use Rattle.ansi_safe.specs.Safe.{is_printable_byte, is_safe};
 ghost use Rattle.ansi_restyle.specs.Links.{has_link, without_links, IsWithoutLinks};
 ghost use Rattle.ansi_restyle.specs.Links.{linked_range, links, links_of_walk};
 ghost use Rattle.ansi_restyle.specs.Links.{is_clean_address, as_link, with_link, IsLinked, IsInThree};
@@ -187,6 +188,8 @@ pub fn unlink_in<'t, A: Allocator>(alloc: A, text: &'t str) -> Result<CowStr<'t,
     ensures bytes { IfOk result (λ c. cow_str_bytes c ≡ without_links text.now) }
     ensures borrowed { IfOk result (λ c. IsBorrowedStr c ↔ IsFalse (has_link text.now)) }
     ensures len { IfOk result (λ c. length (cow_str_bytes c) ≤ length text.now) }
+    ensures safe { (links other : LinkPolicy.Links) → IsTrue (is_safe links text.now) →
+        IfOk result (λ c. IsTrue (is_safe other (cow_str_bytes c))) }
     ensures takes_no_memory { IsFalse (has_link text.now) → IsOk result }
 {
     if !has_link(text) {

@@ -3,7 +3,9 @@ ghost use Rattle.std.specs.Prelude.{◌≡◌, ◌↔◌, ◌⊎◌, ◌≤◌, 
 ghost use Rattle.std.specs.Prelude.{IsOk, IsTrue};
 ghost use Rattle.std.specs.Cow.{cow_str_bytes, IsBorrowedStr};
 ghost use Rattle.ansi_items.specs.Plain.{plain, is_whole};
-ghost use Rattle.ansi_restyle.specs.Ranges.{are_in_turn};
+ghost use Rattle.ansi_safe.specs.declared.policy.Links.{Links};
+ghost use Rattle.ansi_safe.specs.Safe.{is_safe};
+ghost use Rattle.ansi_restyle.specs.Ranges.{are_in_turn, parts_line_end};
 ghost use Rattle.ansi_restyle.specs.Removed.{removed, IsRemoved};
 
 use crate::rest::Rest;
@@ -33,6 +35,9 @@ pub fn remove_in<'t, A: Allocator>(
         cow_str_bytes c ≡ removed text.now range.0 range.1)) }
     ensures borrowed { IfOk result (λ o. IfSome o (λ c. IsBorrowedStr c ↔ (range.0 ≡ range.1))) }
     ensures len { IfOk result (λ o. IfSome o (λ c. length (cow_str_bytes c) ≤ length text.now)) }
+    ensures safe { (links : Links) → IsTrue (is_safe links text.now) →
+        IsFalse (parts_line_end (plain text.now) range.0) → IfOk result (λ o. IfSome o (λ c.
+        IsTrue (is_safe links (cow_str_bytes c)))) }
     ensures takes_no_memory { (range.0 ≡ range.1)
         ⊎ IsFalse (are_in_turn (plain text.now) 0 (range ∷ [])) → IsOk result }
 {

@@ -1,12 +1,14 @@
-use Rattle.std.proofs.Common.{◌++◌, ◌-◌, List, ℕ, inl, inr, ap, sym, ◌∙◌, subst, string_bytes}
+use Rattle.std.proofs.Common.{◌++◌, ◌-◌, List, ℕ, inl, inr, ap, sym, ◌∙◌, subst, string_bytes, IsTrue}
 use Rattle.ansi_items.specs.Pieces.{pieces_of}
 use Rattle.ansi_items.specs.Plain.{plain}
 use Rattle.ansi_search.proofs.PositionLemmas.{no_character_goes_on-past, none_if_bad, some_if_good}
 use Rattle.ansi_slice.specs.Stretches.{sequences_up_to}
+use Rattle.ansi_safe.specs.Safe.{is_safe}
 use Rattle.ansi_restyle.specs.Removed.{IsRemoved}
 use Rattle.ansi_restyle.proofs.IsRemovedLemmas.{is_removed}
 use Rattle.ansi_restyle.proofs.ReplacedLemmas.{is_good_range}
 use Rattle.ansi_restyle.proofs.RemovedLemmas.{length-part, removed-written, removed-empty, length-removed, range_divided, range_bad_start, range_bad_end}
+use Rattle.ansi_restyle.proofs.SafeEditLemmas.{safe-removed}
 use Rattle.ansi_restyle.proofs.remove.remove_in.Goals as goal
 
 -- a bad range
@@ -106,3 +108,12 @@ returns-clause-headline g c =
 
 pub returns-clause-len : goal.returns-clause-len
 returns-clause-len g c = length-removed c.args.text.now c.args.range.0 c.args.range.1 (string_bytes c.push_str-2.new.self) (returns-clause-bytes g c)
+
+-- and safe, if the range doesn't begin between a carriage return and a line feed
+pub returns-clause-safe : goal.returns-clause-safe
+returns-clause-safe g c =
+    let t = c.args.text.now in
+    let first = rw c.new.ensures at c.in-Some.ensures.divided in
+    let good = range_divided t c.args.range c.if-end-start.false first c.in-Some-split_at.ensures.divided
+    (sym c.is_char_boundary.ensures.value ∙ c.if-not-is_char_boundary.false) in
+    λ links safe apart. subst (λ u. IsTrue (is_safe links u)) (sym (returns-clause-bytes g c)) (safe-removed links t c.args.range c.utf8.text good safe apart)
