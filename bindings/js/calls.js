@@ -569,7 +569,7 @@ function linkAfter(link, sequences) {
 }
 
 /** The blocks, each with its link. */
-function* linked(blocks) {
+function* withLinks(blocks) {
   let link = null;
   for (const block of blocks) {
     if (block.sequences.includes('\x1b]8;')) {
@@ -580,7 +580,7 @@ function* linked(blocks) {
 }
 
 export function iterBlocks(text) {
-  return linked(blockWalk(textOf('text', text)));
+  return withLinks(blockWalk(textOf('text', text)));
 }
 
 /** A block of a whole text: its run, and the sequences before that. */
@@ -591,7 +591,7 @@ function apart({ text, style }) {
 
 export function blocks(text) {
   // (a lone ESC before a run may begin a sequence with it, so only a walk says where the run begins)
-  return isWhole(text) ? [...linked(blocksOf(text).map(apart))] : [...iterBlocks(text)];
+  return isWhole(text) ? [...withLinks(blocksOf(text).map(apart))] : [...iterBlocks(text)];
 }
 
 export function penAfter(text) {
