@@ -25,3 +25,4 @@ pub mod AddressLemmas
 pub mod LinkWalkLemmas
 pub mod LinkRangeLemmas
 pub mod UnionLemmas
+pub mod LinkTurnLemmas

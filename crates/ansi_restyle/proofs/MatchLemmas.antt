@@ -92,7 +92,7 @@ as_range p m = (m, m + length p)
 abbrev later_places : List ℕ → List ℕ → ℕ → ℕ → List ℕ
 later_places x p i k = filter (is_match x p) (range_with_len i k)
 
-in_turn-first : (x : List ℕ) (e : ℕ) (r : ℕ × ℕ) (rs : List (ℕ × ℕ)) → e ≤ r.0 → r.0 ≤ r.1 → IsTrue (no_character_goes_on x r.0) → IsTrue (no_character_goes_on x r.1) → are_in_turn x r.1 rs ≡ true → are_in_turn x e (r ∷ rs) ≡ true
+pub in_turn-first : (x : List ℕ) (e : ℕ) (r : ℕ × ℕ) (rs : List (ℕ × ℕ)) → e ≤ r.0 → r.0 ≤ r.1 → IsTrue (no_character_goes_on x r.0) → IsTrue (no_character_goes_on x r.1) → are_in_turn x r.1 rs ≡ true → are_in_turn x e (r ∷ rs) ≡ true
 in_turn-first x e r rs begins ends good_start good_end later =
     and_from _ _ (le-leb e r.0 begins) (and_from _ _ (le-leb r.0 r.1 ends) (and_from _ _ good_start (and_from _ _ good_end later)))
 

@@ -3,13 +3,15 @@
 //! Each function has one law as its contract, does nothing and returns nothing. A body that needs
 //! the law calls it, as `laws::other_marks_stay();`. (Own.)
 ghost use Rattle.std.specs.Prelude.{◌≡◌, ◌<◌, ◌≤◌, ◌-◌, ◌++◌, ℕ, List, [], IsTrue, length};
-ghost use Rattle.std.specs.Prelude.{slice_range};
+ghost use Rattle.std.specs.Prelude.{map, slice_range};
+ghost use Rattle.std.specs.Str.{IsUtf8};
 ghost use Rattle.ansi_items.specs.Plain.{plain, is_whole};
 ghost use Rattle.ansi_style.specs.Rendition.{known};
 ghost use Rattle.ansi_style.specs.Reading.{style_after_from, styled_from};
 ghost use Rattle.ansi_style.specs.Styled.{StyledByte, styled, style_at};
 ghost use Rattle.ansi_style.specs.Written.{written};
-ghost use Rattle.ansi_restyle.specs.Ranges.{are_empty};
+ghost use Rattle.ansi_restyle.specs.Links.{LinkedRange, links};
+ghost use Rattle.ansi_restyle.specs.Ranges.{are_empty, are_in_turn};
 ghost use Rattle.ansi_restyle.specs.Removed.{IsRemoved};
 ghost use Rattle.ansi_restyle.specs.Replaced.{IsReplaced};
 ghost use Rattle.ansi_restyle.specs.Restyled.{is_change, changed_byte, changed_within};
@@ -62,4 +64,10 @@ pub fn empty_replacements_remove()
 pub fn insertions_replace_what_was_removed()
     ensures { (t w u v x : List ℕ) (a b : ℕ) → 0 < a → a ≤ length (plain t) → IsRemoved t a b u →
         IsReplaced u a a w v → IsReplaced t a b w x → styled v ≡ styled x }
+{}
+
+/// The ranges of the links of a text are in turn, so `ansi_restyle` takes them.
+pub fn links_are_in_turn()
+    ensures { (t : List ℕ) → IsUtf8 t →
+        IsTrue (are_in_turn (plain t) 0 (map (λ (l : LinkedRange). l.range) (links t))) }
 {}
