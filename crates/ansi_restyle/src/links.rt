@@ -18,7 +18,6 @@ use crate::rest::Rest;
 use ansi_items::ansitok::{Kind, Scanner};
 use ansi_safe::links::{address_of, pen_after, pen_after_from, terminator_len};
 use ansi_search::search;
-use ansi_style::styles;
 use std::alloc::{AllocError, Allocator};
 use std::borrow::CowStr;
 use std::marker::Model;
@@ -258,11 +257,10 @@ fn in_three(text: &str, range: (usize, usize)) -> Option<(&str, &str, &str)>
     if end < start {
         return None;
     }
-    let mut style = styles::plain_style();
-    let Some(at_start) = Rest::new(text).split_at(&mut style, start) else {
+    let Some(at_start) = Rest::new(text).divide(start) else {
         return None;
     };
-    let Some(at_end) = at_start.rest.split_at(&mut style, end - start) else {
+    let Some(at_end) = at_start.rest.divide(end - start) else {
         return None;
     };
     if !search::is_char_boundary(text, end) {
