@@ -11,7 +11,6 @@ ghost use Rattle.ansi_restyle.specs.Removed.{removed, IsRemoved};
 use crate::rest::Rest;
 use ansi_search::search;
 use ansi_slice::slice::push_sequences;
-use ansi_style::styles;
 use std::alloc::{AllocError, Allocator};
 use std::borrow::CowStr;
 
@@ -45,12 +44,11 @@ pub fn remove_in<'t, A: Allocator>(
     if end < start {
         return Ok(None);
     }
-    let mut style = styles::plain_style();
-    let Some(at_start) = Rest::new(text).split_at(&mut style, start) else {
+    let Some(at_start) = Rest::new(text).divide(start) else {
         return Ok(None);
     };
     let len = end - start;
-    let Some(at_end) = at_start.rest.split_at(&mut style, len) else {
+    let Some(at_end) = at_start.rest.divide(len) else {
         return Ok(None);
     };
     if !search::is_char_boundary(text, end) {
