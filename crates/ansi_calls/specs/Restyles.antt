@@ -9,6 +9,7 @@ use Rattle.ansi_restyle.specs.Matches.{matches}
 use Rattle.ansi_restyle.specs.Ranges.{are_in_turn, are_empty}
 use Rattle.ansi_restyle.specs.Removed.{removed}
 use Rattle.ansi_restyle.specs.Replaced.{replaced}
+use Rattle.ansi_restyle.specs.ReplacedAll.{replaced_all}
 use Rattle.ansi_restyle.specs.Restyled.{is_change, restyled}
 use Rattle.ansi_calls.specs.declared.answers.Answer.{Answer}
 use Rattle.ansi_calls.specs.declared.lists.ListAnswer.{ListAnswer}
@@ -99,3 +100,11 @@ GivesInserted t position w answer old new =
 -- `insert` does so
 abbrev pub Inserts : List ℕ → ℕ → List ℕ → Answer → List ℕ → List ℕ → Type 0
 Inserts t position w answer old new = OnUtf8 (t ∷ w ∷ []) (GivesInserted t position w answer old new) (HasFailed not_utf8 answer old new)
+
+-- a call writes the text t with w in place of each match of p, and allocates only if p matches
+unfoldable pub GivesReplacedAll : List ℕ → List ℕ → List ℕ → Answer → List ℕ → List ℕ → Type 0
+GivesReplacedAll t p w answer old new = Gives no (not (length (matches (plain t) p) == 0)) (Some (replaced_all t p w)) answer old new
+
+-- `replace_all` does so
+abbrev pub ReplacesAll : List ℕ → List ℕ → List ℕ → Answer → List ℕ → List ℕ → Type 0
+ReplacesAll t p w answer old new = OnUtf8 (t ∷ p ∷ w ∷ []) (GivesReplacedAll t p w answer old new) (HasFailed not_utf8 answer old new)

@@ -7,12 +7,16 @@ ghost use Rattle.ansi_calls.specs.Restyles.{match_entries, WritesMatches, ranges
 ghost use Rattle.ansi_calls.specs.Restyles.{Restyles, GivesRestyled, Marks, GivesMarked};
 ghost use Rattle.ansi_calls.specs.Restyles.{Removes, GivesRemoved};
 ghost use Rattle.ansi_calls.specs.Restyles.{Replaces, GivesReplaced, Inserts, GivesInserted};
+ghost use Rattle.ansi_calls.specs.Restyles.{ReplacesAll, GivesReplacedAll};
 
-use crate::answers::{Answer, NOT_UTF8, OK, OUT_OF_MEMORY, REFUSED, TOO_SMALL, write_found};
+use crate::answers::{
+    Answer, NOT_UTF8, OK, OUT_OF_MEMORY, REFUSED, TOO_SMALL, write_found, write_text,
+};
 use crate::lists::{ListAnswer, put};
 use ansi_restyle::matches::Matches;
 use ansi_restyle::remove::remove_in;
 use ansi_restyle::replace::{insert_in, replace_in};
+use ansi_restyle::replace_all::replace_all_in;
 use ansi_restyle::restyle::{mark_in, restyle_in};
 use ansi_safe::utf8::from_utf8;
 use std::alloc::{AllocError, Allocator};
@@ -265,4 +269,40 @@ fn insert_text<A: Allocator>(
     ensures { GivesInserted text.now position with.now result buffer.old buffer.new }
 {
     write_found(insert_in(alloc, text, position, with), REFUSED, buffer)
+}
+
+/// The text with another text in place of each match of a pattern.
+pub fn replace_all<A: Allocator>(
+    alloc: A,
+    text: &[u8],
+    pattern: &[u8],
+    with: &[u8],
+    buffer: &mut [u8],
+) -> Answer
+    ensures { ReplacesAll text.now pattern.now with.now result buffer.old buffer.new }
+{
+    let Ok(text) = from_utf8(text) else {
+        return Answer::failed(NOT_UTF8);
+    };
+    let Ok(pat) = from_utf8(pattern) else {
+        return Answer::failed(NOT_UTF8);
+    };
+    match from_utf8(with) {
+        Ok(with) => replace_all_text(alloc, text, pat, with, buffer),
+        Err(_) => Answer::failed(NOT_UTF8),
+    }
+}
+
+/// The same for texts that are known to be UTF-8.
+#[tactic(auto, unfolding(crate::specs::Restyles::GivesReplacedAll))]
+fn replace_all_text<A: Allocator>(
+    alloc: A,
+    text: &str,
+    pat: &str,
+    with: &str,
+    buffer: &mut [u8],
+) -> Answer
+    ensures { GivesReplacedAll text.now pat.now with.now result buffer.old buffer.new }
+{
+    write_text(replace_all_in(alloc, text, pat, with), buffer)
 }

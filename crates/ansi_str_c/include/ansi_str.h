@@ -310,6 +310,8 @@ ansi_str_answer ansi_str_raw_replace(const uint8_t *text, size_t text_len, size_
                                      size_t with_len, uint8_t *buffer, size_t buffer_len);
 ansi_str_answer ansi_str_raw_insert(const uint8_t *text, size_t text_len, size_t position, const uint8_t *with, size_t with_len,
                                     uint8_t *buffer, size_t buffer_len);
+ansi_str_answer ansi_str_raw_replace_all(const uint8_t *text, size_t text_len, const uint8_t *pattern, size_t pattern_len,
+                                         const uint8_t *with, size_t with_len, uint8_t *buffer, size_t buffer_len);
 ansi_str_answer ansi_str_raw_link(const uint8_t *text, size_t text_len, size_t start, size_t end, const uint8_t *address,
                                   size_t address_len, uint8_t *buffer, size_t buffer_len);
 ansi_str_answer ansi_str_raw_unlink(const uint8_t *text, size_t text_len, uint8_t *buffer, size_t buffer_len);
@@ -544,6 +546,17 @@ static inline ansi_str_answer ansi_str_insert(const char *text, size_t text_len,
                                               size_t with_len, char *buffer, size_t buffer_len) {
     return ansi_str_raw_insert(ansi_str_bytes(text), text_len, position, ansi_str_bytes(with), with_len, ansi_str_room(buffer),
                                buffer_len);
+}
+
+/* The text with another text in place of each match of the pattern, as ansi_str_matches finds them and ansi_str_replace replaces
+   each: the new text is in the style and the link that the character before the match has in this text. Every other character
+   keeps its style and its link, and every sequence of the text stays. What is put in isn't searched. ANSI_STR_NOT_UTF8: one of
+   the texts isn't UTF-8. Allocates if the pattern matches.
+   "\x1b[32mone\x1b[39m, one" with "one" and "two" gives "\x1b[32mtwo\x1b[39m, two". */
+static inline ansi_str_answer ansi_str_replace_all(const char *text, size_t text_len, const char *pattern, size_t pattern_len,
+                                                   const char *with, size_t with_len, char *buffer, size_t buffer_len) {
+    return ansi_str_raw_replace_all(ansi_str_bytes(text), text_len, ansi_str_bytes(pattern), pattern_len, ansi_str_bytes(with),
+                                    with_len, ansi_str_room(buffer), buffer_len);
 }
 
 /* The text with its plain bytes from one position up to another linked to an address (OSC 8, without parameters). Each character in

@@ -1,12 +1,14 @@
 //! Calls on matches and on ranges: where a pattern occurs, parts of a text in another style, and a
 //! text without a part or with another text in its place.
 ghost use Rattle.ansi_calls.specs.Restyles.{WritesMatches, Restyles, Marks, Removes};
-ghost use Rattle.ansi_calls.specs.Restyles.{Replaces, Inserts};
+ghost use Rattle.ansi_calls.specs.Restyles.{Replaces, Inserts, ReplacesAll};
 
 use crate::memory::arena_of;
 use ansi_calls::answers::Answer;
 use ansi_calls::lists::ListAnswer;
-use ansi_calls::restyles::{RangeEntry, insert, mark, matches, remove, replace, restyle};
+use ansi_calls::restyles::{
+    RangeEntry, insert, mark, matches, remove, replace, replace_all, restyle,
+};
 use one_block::{MemoryBlock, OneBlock};
 
 /// Where each match of a pattern begins and ends in the plain text.
@@ -95,4 +97,19 @@ pub extern "C" fn ansi_str_raw_insert(
 {
     let block = OneBlock::new(memory);
     insert(&arena_of(&block), text, position, with, buffer)
+}
+
+/// The text with another text in place of each match of a pattern.
+#[unsafe(no_mangle)]
+pub extern "C" fn ansi_str_raw_replace_all(
+    memory: MemoryBlock,
+    text: &[u8],
+    pattern: &[u8],
+    with: &[u8],
+    buffer: &mut [u8],
+) -> Answer
+    ensures { ReplacesAll text.now pattern.now with.now result buffer.old buffer.new }
+{
+    let block = OneBlock::new(memory);
+    replace_all(&arena_of(&block), text, pattern, with, buffer)
 }
