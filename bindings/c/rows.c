@@ -205,6 +205,8 @@ static ansi_str_answer call(const struct row *r, char *buffer, size_t len) {
         return ansi_str_replace(TEXT(t), position(r, 0), position(r, 1), TEXT(argument(r, 2)), buffer, len);
     } else if (strcmp(name, "insert") == 0) {
         return ansi_str_insert(TEXT(t), position(r, 0), TEXT(argument(r, 1)), buffer, len);
+    } else if (strcmp(name, "replace_all") == 0) {
+        return ansi_str_replace_all(TEXT(t), TEXT(argument(r, 0)), TEXT(argument(r, 1)), buffer, len);
     } else if (strcmp(name, "link") == 0) {
         return ansi_str_link(TEXT(t), position(r, 0), position(r, 1), TEXT(argument(r, 2)), buffer, len);
     } else if (strcmp(name, "unlink") == 0) {
@@ -780,6 +782,7 @@ static void expect_failures(void) {
                                        ansi_str_replace("\xff", 1, 1, 0, "a", 1, buffer, 8),
                                        ansi_str_replace("a", 1, 1, 0, "\xff", 1, buffer, 8),
                                        ansi_str_insert("a", 1, 2, "\xff", 1, buffer, 8),
+                                       ansi_str_replace_all("a", 1, "b", 1, "\xff", 1, buffer, 8),
                                        ansi_str_link("\xff", 1, 0, 0, "", 0, buffer, 8),
                                        ansi_str_link("a", 1, 1, 0, "\xff", 1, buffer, 8),
                                        ansi_str_unlink("\xff", 1, buffer, 8)};
@@ -840,6 +843,7 @@ static void expect_failures(void) {
     expect("nothing", ansi_str_remove(NULL, 0, 0, 0, NULL, 0).status == ANSI_STR_OK);
     expect("nothing", ansi_str_replace(NULL, 0, 0, 0, NULL, 0, NULL, 0).status == ANSI_STR_OK);
     expect("nothing", ansi_str_insert(NULL, 0, 0, NULL, 0, NULL, 0).status == ANSI_STR_OK);
+    expect("nothing", ansi_str_replace_all(NULL, 0, NULL, 0, NULL, 0, NULL, 0).status == ANSI_STR_OK);
     expect("no address", ansi_str_link(NULL, 0, 0, 0, NULL, 0, NULL, 0).status == ANSI_STR_REFUSED);
     expect("nothing", ansi_str_unlink(NULL, 0, NULL, 0).status == ANSI_STR_OK);
     lines = ansi_str_links(NULL, 0, NULL, 0, NULL, 0);

@@ -287,6 +287,16 @@ extern "C" {
         b: Room,
         m: usize,
     ) -> Answer;
+    fn ansi_str_raw_replace_all(
+        t: Bytes,
+        n: usize,
+        p: Bytes,
+        k: usize,
+        with: Bytes,
+        with_len: usize,
+        b: Room,
+        m: usize,
+    ) -> Answer;
     fn ansi_str_raw_link(
         t: Bytes,
         n: usize,
@@ -706,6 +716,16 @@ pub(crate) fn insert(text: &str, position: usize, with: &str) -> Option<String> 
         unsafe { ansi_str_raw_insert(t, n, position, w, k, b, m) }
     })
     .ok()
+}
+
+/// The text with another text in place of each match.
+pub(crate) fn replace_all(text: &str, pat: &str, with: &str) -> String {
+    let (t, n, p, k) = (text.as_ptr(), text.len(), pat.as_ptr(), pat.len());
+    written(2 * n + with.len(), |b, m| {
+        // SAFETY: three `str`s, and the room
+        unsafe { ansi_str_raw_replace_all(t, n, p, k, with.as_ptr(), with.len(), b, m) }
+    })
+    .unwrap_or_else(|_| unreachable!("the call isn't refused"))
 }
 
 /// The text with a range linked, or `None` if the range or the address is refused.

@@ -123,6 +123,19 @@ pub trait AnsiRestyle: AnsiStr {
     #[must_use]
     fn ansi_insert(&self, position: usize, with: &str) -> Option<Cow<'_, str>>;
 
+    /// The text with another text in place of each match of a pattern, as [`ansi_matches`](AnsiRestyle::ansi_matches) finds them
+    /// and [`ansi_replace`](AnsiRestyle::ansi_replace) replaces each: the new text is in the style and the link that the character
+    /// before the match has in this text. Every other character keeps its style and its link. It is borrowed if nothing matches.
+    /// (std's `replace`, on the plain text.)
+    ///
+    /// ```
+    /// use ansi_str::restyle::AnsiRestyle;
+    /// let replaced = "\x1b[32mone\x1b[39m, one".ansi_replace_all("one", "two");
+    /// assert_eq!(replaced, "\x1b[32mtwo\x1b[39m, two");
+    /// ```
+    #[must_use]
+    fn ansi_replace_all(&self, pat: &str, with: &str) -> Cow<'_, str>;
+
     /// The links of the text, in order. A link sequence (OSC 8) with an address opens a link, which goes on up to the next link
     /// sequence or the end of the text. A link without text is left out.
     ///
@@ -265,6 +278,14 @@ impl<T: AsRef<str> + ?Sized> AnsiRestyle for T {
         let text = self.as_ref();
         let longer = calls::insert(text, position, with)?;
         Some(borrowed_if(with.is_empty(), text, longer))
+    }
+
+    fn ansi_replace_all(&self, pat: &str, with: &str) -> Cow<'_, str> {
+        let text = self.as_ref();
+        match text.ansi_find(pat) {
+            Some(_) => Cow::Owned(calls::replace_all(text, pat, with)),
+            None => Cow::Borrowed(text),
+        }
     }
 
     fn ansi_links(&self) -> AnsiLinks {

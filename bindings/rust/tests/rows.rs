@@ -277,6 +277,7 @@ fn pass(call: &str, status: &str, want: &str, text: &str, more: &[String]) -> Op
         "remove" => is(text.ansi_remove(position(0)..position(1))),
         "replace" => is(text.ansi_replace(position(0)..position(1), &more[2])),
         "insert" => is(text.ansi_insert(position(0), &more[1])),
+        "replace_all" => is(Some(text.ansi_replace_all(&more[0], &more[1]))),
         "link" => is(text.ansi_link(position(0)..position(1), &more[2])),
         "unlink" => is(Some(text.ansi_unlink())),
         "links" => {
@@ -377,6 +378,8 @@ fn what_no_range_changes_is_a_borrow() {
         assert!(matches!(text.ansi_replace(0..1, "a"), Some(Cow::Owned(_))));
         assert!(matches!(text.ansi_insert(3, ""), Some(Cow::Borrowed(_))));
         assert!(matches!(text.ansi_insert(3, "d"), Some(Cow::Owned(_))));
+        assert!(matches!(text.ansi_replace_all("d", "e"), Cow::Borrowed(_)));
+        assert!(matches!(text.ansi_replace_all("a", "a"), Cow::Owned(_)));
         assert!(matches!(text.ansi_link(3..3, "u"), Some(Cow::Borrowed(_))));
         assert!(matches!(text.ansi_link(0..3, "u"), Some(Cow::Owned(_))));
         assert!(matches!(text.ansi_unlink(), Cow::Borrowed(_)));

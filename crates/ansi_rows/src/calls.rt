@@ -108,7 +108,7 @@ impl<'r> Call<'r> {
             "matches" | "find_from" | "restyle" | "mark" | "remove" | "replace" | "insert" => {
                 Call::Restyles(RestyleCall::new(row)?)
             }
-            "link" | "unlink" | "links" => Call::Restyles(RestyleCall::new(row)?),
+            "replace_all" | "link" | "unlink" | "links" => Call::Restyles(RestyleCall::new(row)?),
             _ => Call::Columns(ColumnCall::new(row)?),
         })
     }

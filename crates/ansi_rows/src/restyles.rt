@@ -6,6 +6,7 @@ use ansi_restyle::links::{Links, link_in, unlink_in};
 use ansi_restyle::matches::Matches;
 use ansi_restyle::remove::remove_in;
 use ansi_restyle::replace::{insert_in, replace_in};
+use ansi_restyle::replace_all::replace_all_in;
 use ansi_restyle::restyle::{mark_in, restyle_in};
 use ansi_str::AnsiStr;
 use refusing::Refusing;
@@ -21,6 +22,7 @@ pub enum RestyleCall<'r> {
     Remove(usize, usize),
     Replace(usize, usize, &'r str),
     Insert(usize, &'r str),
+    ReplaceAll(&'r str, &'r str),
     Link(usize, usize, &'r str),
     Unlink,
     Links,
@@ -36,6 +38,7 @@ impl<'r> RestyleCall<'r> {
             "remove" => RestyleCall::Remove(row.number(0)?, row.number(1)?),
             "replace" => { RestyleCall::Replace(row.number(0)?, row.number(1)?, row.argument(2)?) }
             "insert" => RestyleCall::Insert(row.number(0)?, row.argument(1)?),
+            "replace_all" => RestyleCall::ReplaceAll(row.argument(0)?, row.argument(1)?),
             "link" => RestyleCall::Link(row.number(0)?, row.number(1)?, row.argument(2)?),
             "unlink" => RestyleCall::Unlink,
             "links" => RestyleCall::Links,
@@ -98,6 +101,9 @@ pub fn make_restyle_call<T: AnsiStr>(check: &mut Check<'_>, text: &T, call: Rest
         RestyleCall::Insert(position, with) => {
             check.option_or_err(text.ansi_insert(alloc, position, with), "2");
         }
+        RestyleCall::ReplaceAll(pat, with) => {
+            check.text_or_err(text.ansi_replace_all(alloc, pat, with));
+        }
         RestyleCall::Link(start, end, address) => {
             check.option_or_err(text.ansi_link(alloc, (start, end), address), "2");
         }
@@ -128,6 +134,9 @@ pub fn make_restyle_call_in(check: &mut Check<'_>, heap: &Refusing<Global>, call
         }
         RestyleCall::Insert(position, with) => {
             check.option_or_err(insert_in(heap, text, position, with), "2");
+        }
+        RestyleCall::ReplaceAll(pat, with) => {
+            check.text_or_err(replace_all_in(heap, text, pat, with));
         }
         RestyleCall::Link(start, end, address) => {
             check.option_or_err(link_in(heap, text, (start, end), address), "2");

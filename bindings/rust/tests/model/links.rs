@@ -1,9 +1,9 @@
 //! Texts with another text in place of a range, and links, at all pairs of positions.
 
-use crate::restyle::{are_in_turn, expect_made};
+use crate::restyle::{are_in_turn, expect_made, CHARACTERS};
 use crate::style::Style;
 use crate::text::{Item, Kind, Text};
-use crate::{compare, Tally};
+use crate::{compare, short_texts, Tally};
 use ansi_str::restyle::{AnsiLink, AnsiRestyle};
 use std::ops::Range;
 
@@ -162,6 +162,31 @@ fn expect_replaced(tally: &mut Tally, spelled: &str) {
 #[test]
 fn ranges_are_replaced_as_defined() {
     assert_eq!(compare(&PIECES, 3, expect_replaced), 847_364);
+}
+
+/// The text with each match replaced, the last one first.
+fn all_replaced(spelled: &str, matches: &[Range<usize>], with: &str) -> String {
+    let replace = |made: String, range| replaced(&Text::new(&made), range, with);
+    matches.iter().rev().fold(spelled.to_owned(), replace)
+}
+
+#[test]
+fn all_matches_are_replaced_as_defined() {
+    let patterns: Vec<String> = short_texts(&CHARACTERS, 2).collect();
+    let compared = compare(&PIECES, 3, |tally, spelled| {
+        let text = Text::new(spelled);
+        for pat in &patterns {
+            let found = text.plain.match_indices(&**pat);
+            let matches: Vec<_> = found.map(|(at, pat)| at..at + pat.len()).collect();
+            for with in ["", "x", "\x1b[1mx", "\x1b[0;99mx", "\x1b]8;;u\x07x"] {
+                let want = all_replaced(spelled, &matches, with);
+                let got = Some(spelled.ansi_replace_all(pat, with));
+                let is_same = matches.is_empty();
+                expect_made(tally, got, Some(want), is_same, (&matches, spelled));
+            }
+        }
+    });
+    assert_eq!(compared, 709_800);
 }
 
 fn expect_linked(tally: &mut Tally, spelled: &str) {

@@ -104,7 +104,7 @@ fn ranges_are_restyled_as_defined() {
 }
 
 /// What patterns are made of.
-const CHARACTERS: [&str; 4] = ["a", "bc", "\u{e9}", "\x1b"];
+pub(crate) const CHARACTERS: [&str; 4] = ["a", "bc", "\u{e9}", "\x1b"];
 
 #[test]
 fn matches_are_as_defined() {
