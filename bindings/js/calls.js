@@ -71,6 +71,11 @@ const raw = {
       (exports, frame) => exports.ansi_str_raw_insert(...frame.head, ...frame.texts[0], BigInt(position), ...frame.texts[1], ...frame.out), written);
   },
 
+  replaceAll(text, pattern, replacement) {
+    return called([text, pattern, replacement], [], roomForOne, (exports, frame) => exports.ansi_str_raw_replace_all(
+      ...frame.head, ...frame.texts[0], ...frame.texts[1], ...frame.texts[2], ...frame.out), written);
+  },
+
   link(text, start, end, address) {
     return called([text, address], [], roomForOne, (exports, frame) => exports.ansi_str_raw_link(
       ...frame.head, ...frame.texts[0], BigInt(start), BigInt(end), ...frame.texts[1], ...frame.out), written);
@@ -527,6 +532,10 @@ export function insert(text, position, added) {
     throw new RangeError(at > plain.length ? `the position, ${at}, is past the end of the plain text, ${plain.length}` : refusal(plain, at, at));
   }
   return longer;
+}
+
+export function replaceAll(text, pattern, replacement) {
+  return raw.replaceAll(textOf('text', text), textOf('pattern', pattern), textOf('replacement', replacement));
 }
 
 export function link(text, start, end, address) {

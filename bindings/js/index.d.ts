@@ -108,6 +108,13 @@ export function replace(text: string, start: number, end: number, replacement: s
 export function insert(text: string, position: number, added: string): string;
 
 /**
+ * The text with another text in place of each match of a pattern, as `matches` finds them and `replace` replaces each: the replacement is in
+ * the style and the link that the character before the match has in this text. Every other character keeps its style and its link. A `$` in
+ * the replacement has no meaning of its own.
+ */
+export function replaceAll(text: string, pattern: string, replacement: string): string;
+
+/**
  * The text with what its plain text has from `start` to `end` linked to an address (OSC 8). Each character there loses another link that it had.
  * Every other character keeps its link: one that goes on into the range ends before it, and one that goes on after it is opened again there. The
  * plain text, the styles and all other sequences stay. Throws as `remove` does, and a RangeError if the address is empty or has anything but

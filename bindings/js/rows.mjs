@@ -90,6 +90,8 @@ function answersOf(ansi, call, found, want, text, more) {
       return [[orNull(() => ansi.replace(text, first, second, more[2])), found]];
     case 'insert':
       return [[orNull(() => ansi.insert(text, first, second)), found]];
+    case 'replace_all':
+      return [[ansi.replaceAll(text, first, second), want]];
     case 'link':
       return [[orNull(() => ansi.link(text, first, second, more[2])), found]];
     case 'unlink':

@@ -10,7 +10,7 @@ import { setFlagsFromString } from 'node:v8';
 import { runInNewContext } from 'node:vm';
 import {
   OutOfMemoryError, blocks, columnOf, cut, edit, endsWith, expandTabs, find, findFrom, fit, fitting, floorCharBoundary, hasAny, isSafe, isWhole, iterBlocks, iterLines, iterSplit, lines, linkAt,
-  insert, link, links, mark, matches, pad, part, penAfter, remove, replace, restyle, sanitize, sliceColumns, split, splitAt, startsWith, strip, stripPrefix, stripSuffix, trim, truncate, unlink, width, wrap,
+  insert, link, links, mark, matches, pad, part, penAfter, remove, replace, replaceAll, restyle, sanitize, sliceColumns, split, splitAt, startsWith, strip, stripPrefix, stripSuffix, trim, truncate, unlink, width, wrap,
 } from './index.js';
 import * as ansiStr from './index.js';
 import { called, written } from './memory.js';
@@ -123,6 +123,8 @@ test('a replacement, an added text and a link count UTF-16 units, and a bad rang
   const refused = (message) => ({ name: 'RangeError', message });
   assert.equal(replace('😀a\x1b[1m😀', 2, 3, '\x1b[3mé'), '😀\x1b[3mé\x1b[23m\x1b[1m😀');
   assert.equal(insert('\x1b[1m😀a', 2, 'é'), '\x1b[1m😀éa');
+  assert.equal(replaceAll('😀a\x1b[1m😀', '😀', '$&é'), '$&éa$&é\x1b[1m');
+  assert.equal(replaceAll('é'.repeat(1000), '', '12'), `${'12é'.repeat(1000)}12`);
   assert.equal(link('😀a', 0, 2, 'u'), '\x1b]8;;u\x1b\\😀\x1b]8;;\x1b\\a');
   assert.deepEqual(links('😀\x1b]8;;é\x1b\\a😀\x1b]8;;v\x1b\\b'), [{ start: 2, end: 5, address: 'é' }, { start: 5, end: 6, address: 'v' }]);
   assert.equal(links('\x1b]8;;u\x07a'.repeat(1000)).length, 1000);
@@ -143,6 +145,8 @@ test('a replacement, an added text and a link count UTF-16 units, and a bad rang
     assert.throws(() => replace(text, 0, 0), /must be a string/);
     assert.throws(() => insert(text, 0, '\ud800'), /lone surrogate/);
     assert.throws(() => link(text, 0, 1, null), /must be a string/);
+    assert.throws(() => replaceAll(text, null, 'x'), /the pattern must be a string/);
+    assert.throws(() => replaceAll(text, 'a'), /the replacement must be a string/);
     assert.throws(() => links(null), /must be a string/);
   }
   for (const range of [[0, 1], [1, 2], [1, 1]]) {

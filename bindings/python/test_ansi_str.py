@@ -96,6 +96,7 @@ MADE = {
     "remove": lambda text, start, end: [or_none(ansi_str.remove, text, start, end)],
     "replace": lambda text, start, end, new: [or_none(ansi_str.replace, text, start, end, new)],
     "insert": lambda text, position, new: [or_none(ansi_str.insert, text, position, new)],
+    "replace_all": lambda text, pattern, new: [ansi_str.replace_all(text, pattern, new)],
     "link": lambda text, start, end, address: [or_none(ansi_str.link, text, start, end, address)],
     "unlink": lambda text: [ansi_str.unlink(text)],
     "links": lambda text, *_: [[(link.start, link.end, link.address) for link in ansi_str.links(text)]],
@@ -204,8 +205,8 @@ CALLS = {"strip": [], "cut": [0], "left": [0], "right": [0], "part": [",", 0], "
          "expand_tabs": [8], "wrap": [1], "lines": [1], "iter_lines": [1], "find": [""], "starts_with": [""], "ends_with": [""], "has_any": [], "is_whole": [], "split": [","],
          "iter_split": [","], "blocks": [], "iter_blocks": [], "pen_after": [], "edit": [[]], "sanitize": [], "is_safe": [], "link_at": [0],
          "matches": ["a"], "find_from": [0, "a"], "restyle": [[(0, 0)], "1"], "mark": ["a", "1"], "remove": [0, 0],
-         "replace": [0, 0, "b"], "insert": [0, "b"], "link": [0, 0, "b"], "unlink": [], "links": []}
-PATTERNED = ["matches", "mark", "part", "strip_prefix", "strip_suffix", "find", "starts_with", "ends_with", "split", "iter_split"]
+         "replace": [0, 0, "b"], "insert": [0, "b"], "replace_all": ["a", "b"], "link": [0, 0, "b"], "unlink": [], "links": []}
+PATTERNED = ["matches", "mark", "replace_all", "part", "strip_prefix", "strip_suffix", "find", "starts_with", "ends_with", "split", "iter_split"]
 HUGE = [2**31, 2**63 - 1, 2**63, 2**64 - 1, 2**64, 2**64 + 1, 2**200]
 
 
@@ -316,11 +317,13 @@ class Arguments(unittest.TestCase):
             for wrong in ("", "a\nb", "\x1b\\", "\x7f", "\xe9"):
                 self.refused(ValueError, "address must be printable ASCII, and not empty, not " + repr(wrong), ansi_str.link, text, 0, 1, wrong)
             for call, name in ((lambda new: ansi_str.replace(text, 0, 0, new), "new"), (lambda new: ansi_str.insert(text, 0, new), "new"),
-                               (lambda address: ansi_str.link(text, 0, 1, address), "address")):
+                               (lambda new: ansi_str.replace_all(text, "z", new), "new"), (lambda address: ansi_str.link(text, 0, 1, address), "address")):
                 self.refused(TypeError, name + " must be a str, not int", call, 1)
                 self.refused(UnicodeEncodeError, name + " has a lone surrogate", call, "\ud800")
         self.assertEqual(ansi_str.replace("\xe9b\x1b[1m\xe9", 1, 2, "\xe7"), "\xe9\xe7\x1b[1m\xe9")
         self.assertEqual(ansi_str.insert("\xe9\x1b[1m\xe9", 1, "\xe7"), "\xe9\xe7\x1b[1m\xe9")
+        self.assertEqual(ansi_str.replace_all("\xe9b\x1b[1m\xe9", "\xe9", "\xe7"), "\xe7b\xe7\x1b[1m")
+        self.assertEqual(ansi_str.replace_all("\xe9" * 1000, "", "12"), "12\xe9" * 1000 + "12")
         self.assertEqual(ansi_str.link("\xe9b\xe7", 1, 2, "u"), "\xe9\x1b]8;;u\x1b\\b\x1b]8;;\x1b\\\xe7")
         self.assertEqual(ansi_str.links("\xe9\x1b]8;;u\x1b\\\xe9\x1b]8;;v\x1b\\b"), [(1, 2, "u"), (2, 3, "v")])
         self.assertEqual(len(ansi_str.links("\x1b]8;;%s\x07\xe9" % ("u" * 100) * 1000)), 1000)
@@ -604,6 +607,7 @@ class Private(unittest.TestCase):
         "mark": [("bytes", b"a"), ("bytes", b"a"), ("bytes", b"1")],
         "restyle": [("bytes", b"a"), ("bool", True), ("ranges", ((0, 1),)), ("bytes", b"1")],
         "matches": [("bytes", b"a"), ("bool", True), ("bytes", b"a")],
+        "replace_all": [("bytes", b"a"), ("bytes", b"a"), ("bytes", b"b")],
         "links": [("bytes", b"a"), ("bool", True)],
     }
 

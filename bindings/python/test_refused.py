@@ -33,6 +33,7 @@ def calls():
         yield lambda: _library.wrap(data, 4, b"* ", b"  ")
         yield lambda: list(_library.walk_lines(data, is_ascii, 1))
         yield lambda: _library.mark(data, b"e", b"1")
+        yield lambda: _library.replace_all(data, b"e", b"\x1b[1mnew")
         for ranges in ((), ((0, 0),), ((0, 1), (1, 3)), ((2, 900),)):
             yield lambda: _library.restyle(data, is_ascii, ranges, b"1")
         for pattern in (b"", b",", b"z"):

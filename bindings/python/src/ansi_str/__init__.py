@@ -34,8 +34,9 @@ The calls, each of which has an example in its own help, such as `help(ansi_str.
     mark(text, pattern, style)         restyle(text, ranges, style)
     remove(text, start, end)           codes(*, foreground=None, background=None, bold=True, ...)
     replace(text, start, end, new)     insert(text, position, new)
-    link(text, start, end, address)    unlink(text)
-    links(text)                        pen_after(text)
+    replace_all(text, pattern, new)    link(text, start, end, address)
+    unlink(text)                       links(text)
+    pen_after(text)
 
 The classes, each with a help of its own: `Block` and `Style`, which `blocks` returns, `Link`, which `links` returns, `Pen`, which
 `pen_after` returns, and the edits `Cut`, `Left`, `Right`, `Part`, `Prefix`, `Suffix` and `Trim`. `import *` leaves them out.
@@ -65,7 +66,7 @@ __all__ = [
     "ALIGNMENTS", "SIDES",
     "find", "find_from", "matches", "starts_with", "ends_with", "has_any", "is_whole",
     "mark", "restyle", "remove", "codes",
-    "replace", "insert", "link", "unlink", "links",
+    "replace", "insert", "replace_all", "link", "unlink", "links",
     "sanitize", "is_safe",
     "split", "iter_split", "blocks", "iter_blocks", "pen_after", "ATTRIBUTES", "COLORS",
     "edit",
@@ -516,6 +517,17 @@ def insert(text: str, position: int, new: str) -> str:
     if longer is None:
         raise ValueError("the position lies past the end of the plain text: {}".format(position))
     return longer  # type: ignore[no-any-return]
+
+
+def replace_all(text: str, pattern: str, new: str) -> str:
+    """The text with another text in place of each match of a pattern, as `matches` finds them and `replace` replaces each: the new
+    text is in the style and the link that the character before the match has in this text. Every other character keeps its style
+    and its link.
+
+    >>> replace_all("\\x1b[32mone\\x1b[39m, one", "one", "two")
+    '\\x1b[32mtwo\\x1b[39m, two'
+    """
+    return _library.replace_all(_utf8("text", text), _utf8("pattern", pattern), _utf8("new", new))  # type: ignore[no-any-return]
 
 
 def link(text: str, start: int, end: int, address: str) -> str:

@@ -14,7 +14,7 @@ enum { LONG = 1 << 16 };
 
 /* kinds beside those of edits; SANITIZE takes any bytes */
 enum { TRUNCATE = ANSI_STR_EDIT_TRIM + 1, FIT, PAD, SANITIZE, LINK_AT, SLICE, EXPAND_TABS, REMOVE, REPLACE, LINK, UNLINK, STRIP, KINDS };
-enum { MARK = KINDS, RESTYLE };
+enum { MARK = KINDS, REPLACE_ALL, RESTYLE };
 
 /* the questions about a text: those up to IS_SAFE are yes or no, those from FIND to FITTING return a position, the others columns */
 enum { STARTS_WITH, ENDS_WITH, HAS_ANY, IS_WHOLE, IS_SAFE, FIND, FIND_FROM, FITTING, WIDTH, COLUMN_OF, QUESTIONS };
@@ -26,10 +26,10 @@ typedef struct {
     size_t size;
 } Text;
 
-/* an edit, or a step of another kind; the codes of MARK and RESTYLE, and the ranges of RESTYLE */
+/* an edit, or a step of another kind; the codes of MARK and RESTYLE, or the new text of REPLACE_ALL; and the ranges of RESTYLE */
 typedef struct {
     ansi_str_edit_step edit;
-    Text codes;
+    Text with;
     const ansi_str_range *ranges;
     size_t ranges_len;
 } Step;
@@ -126,10 +126,13 @@ static ansi_str_answer write_step(const Text *text, const Step *made, const Text
     case UNLINK:
         return ansi_str_raw_unlink(text->bytes, text->size, room->bytes, room->size);
     case MARK:
-        return ansi_str_raw_mark(text->bytes, text->size, step->pattern, step->pattern_len, made->codes.bytes, made->codes.size,
+        return ansi_str_raw_mark(text->bytes, text->size, step->pattern, step->pattern_len, made->with.bytes, made->with.size,
                                  room->bytes, room->size);
+    case REPLACE_ALL:
+        return ansi_str_raw_replace_all(text->bytes, text->size, step->pattern, step->pattern_len, made->with.bytes, made->with.size,
+                                        room->bytes, room->size);
     case RESTYLE:
-        return ansi_str_raw_restyle(text->bytes, text->size, made->ranges, made->ranges_len, made->codes.bytes, made->codes.size,
+        return ansi_str_raw_restyle(text->bytes, text->size, made->ranges, made->ranges_len, made->with.bytes, made->with.size,
                                     room->bytes, room->size);
     default:
         return ansi_str_raw_edit(text->bytes, text->size, step, 1, room->bytes, room->size);
@@ -141,10 +144,15 @@ static bool takes_range(uint32_t kind) {
     return kind == REMOVE || kind == REPLACE || kind == LINK;
 }
 
+/* Whether a kind changes each match of its pattern. */
+static bool changes_matches(uint32_t kind) {
+    return kind == MARK || kind == REPLACE_ALL;
+}
+
 /* Makes the text of a step, whose positions count bytes. Returns false with an error set, or with none if the step is refused. */
 static bool make_step(const Text *text, const Step *step, Text *made) {
     /* (what a mark, a range and a new text write is most often shorter than this) */
-    size_t more = step->edit.kind == MARK ? text->size : 48 * step->ranges_len + step->edit.pattern_len;
+    size_t more = changes_matches(step->edit.kind) ? text->size + step->with.size : 48 * step->ranges_len + step->edit.pattern_len;
     size_t size = text->size + more + ANSI_STR_LONGEST_START_AND_CLOSE;
     ansi_str_answer answer;
     do {
@@ -306,19 +314,30 @@ static PyObject *text_made(const Text *text, const Step *step) {
     return answer;
 }
 
-/* (text, pattern, codes): the text with the codes applied to each match, or None if they are refused. */
-static PyObject *mark(PyObject *module, PyObject *words) {
-    PyObject *given, *sought, *codes;
+/* The text with each match changed, by a step of this kind. */
+static PyObject *changed(uint32_t kind, PyObject *words) {
+    PyObject *given, *sought, *with;
     Text text;
     Step step;
-    (void)module;
-    if (!PyArg_ParseTuple(words, "SSS", &given, &sought, &codes)) {
+    if (!PyArg_ParseTuple(words, "SSS", &given, &sought, &with)) {
         return NULL;
     }
     text = text_of(given);
-    step = step_of(MARK, 0, 0, sought);
-    step.codes = text_of(codes);
+    step = step_of(kind, 0, 0, sought);
+    step.with = text_of(with);
     return text_made(&text, &step);
+}
+
+/* (text, pattern, codes): the text with the codes applied to each match, or None if they are refused. */
+static PyObject *mark(PyObject *module, PyObject *words) {
+    (void)module;
+    return changed(MARK, words);
+}
+
+/* (text, pattern, new): the text with a new text in place of each match. */
+static PyObject *replace_all(PyObject *module, PyObject *words) {
+    (void)module;
+    return changed(REPLACE_ALL, words);
 }
 
 /* Reads ranges of positions in characters, each from where the one before ends or later, as ranges in bytes of a plain text. If there
@@ -363,7 +382,7 @@ static PyObject *restyle(PyObject *module, PyObject *words) {
         return NULL;
     }
     text = text_of(given);
-    step.codes = text_of(codes);
+    step.with = text_of(codes);
     step.ranges_len = (size_t)PyTuple_Size(pairs);
     ranges = PyMem_Malloc((step.ranges_len + 1) * sizeof *ranges);
     step.ranges = ranges;
@@ -847,7 +866,7 @@ static PyMethodDef calls[] = {
     {"edit", edit, METH_VARARGS, NULL},   {"tell", tell, METH_VARARGS, NULL}, {"walk", walk, METH_VARARGS, NULL},
     {"strip", strip, METH_VARARGS, NULL}, {"wrap", wrap, METH_VARARGS, NULL}, {"walk_lines", walk_lines, METH_VARARGS, NULL},
     {"mark", mark, METH_VARARGS, NULL},   {"restyle", restyle, METH_VARARGS, NULL}, {"matches", matches, METH_VARARGS, NULL},
-    {"links", links, METH_VARARGS, NULL},
+    {"links", links, METH_VARARGS, NULL}, {"replace_all", replace_all, METH_VARARGS, NULL},
     {NULL, NULL, 0, NULL},
 };
 
