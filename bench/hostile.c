@@ -48,6 +48,7 @@ TEXT(sanitize, ANSI_STR_SHOW, ANSI_STR_KEEP_LINKS) TEXT(sanitize_bytes, ANSI_STR
 QUESTION(is_safe, ANSI_STR_KEEP_LINKS)
 QUESTION(starts_with, p.at, p.len) QUESTION(ends_with, p.at, p.len) QUESTION(find, p.at, p.len)
 QUESTION(find_from, n, p.at, p.len) TEXT(mark, p.at, p.len, "1", 1) TEXT(insert, n, p.at, p.len)
+TEXT(replace_all, p.at, p.len, p.at, p.len)
 
 /* up to a position (C has the name `remove`) */
 static size_t remove_to(struct bytes t, size_t n, struct bytes p) {
@@ -154,7 +155,7 @@ static const struct call CALLS[] = {
     {"sanitize", sanitize, 0, 0, 0}, {"sanitize_bytes", sanitize_bytes, 0, 0, 0}, {"is_safe", is_safe, 0, 0, 0},
     {"remove to", remove_to, 1, 0, 0}, {"restyle to", restyle_to, 1, 0, 0}, {"matches", matches, 0, 1, 1}, {"mark", mark, 0, 1, 0},
     {"replace to", replace_to, 1, 1, 0}, {"insert", insert, 1, 1, 0}, {"link to", link_to, 1, 0, 0}, {"unlink", without_links, 0, 0, 0},
-    {"links", links, 0, 0, 1},
+    {"links", links, 0, 0, 1}, {"replace_all", replace_all, 0, 1, 0},
     {"find_from", find_from, 1, 1, 0}, {"find", find, 0, 1, 0}, {"split", split, 0, 1, 1}, {"part", part, 1, 1, 0},
 };
 enum { CALL_COUNT = sizeof CALLS / sizeof CALLS[0] };
