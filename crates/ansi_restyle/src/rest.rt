@@ -89,6 +89,7 @@ impl<'t> Rest<'t> {
     }
 
     /// The text in two at a position in the run at its front, or `None` if the position isn't good.
+    #[inline(always)]
     fn divide_run(&self, position: usize) -> Option<Divided<'t>>
         requires { position < self.now.run_len }
         ensures { MatchOption result
