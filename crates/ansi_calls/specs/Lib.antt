@@ -4,6 +4,7 @@ pub mod Lists
 pub mod Steps
 pub mod Walks
 pub mod Columns
+pub mod ColumnSteps
 pub mod Safe
 pub mod Restyles
 pub mod Links

@@ -15,6 +15,10 @@ change_of_step step =
     if step.kind == 6 then Trimmed else
     CutRange 1 (Some 0)
 
--- the patterns of steps, whether the steps use them or not
+-- the pattern of a step, whether the step uses it or not
+abbrev pub pattern_of : EditStep → List ℕ
+pattern_of step = step.pattern.now
+
+-- the patterns of steps
 abbrev pub patterns_of : List EditStep → List (List ℕ)
-patterns_of steps = map (λ (step : EditStep). step.pattern.now) steps
+patterns_of steps = map pattern_of steps

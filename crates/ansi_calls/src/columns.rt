@@ -278,7 +278,7 @@ pub fn link_at(text: &[u8], index: usize, buffer: &mut [u8]) -> Answer
 }
 
 /// The alignment with this number, or `None` if there is none.
-fn alignment_of(number: u32) -> Option<Alignment>
+pub fn alignment_of(number: u32) -> Option<Alignment>
     ensures { result ≡ alignment_of number }
 {
     match number {
@@ -290,7 +290,7 @@ fn alignment_of(number: u32) -> Option<Alignment>
 }
 
 /// The side with this number, or `None` if there is none.
-fn side_of(number: u32) -> Option<Side>
+pub fn side_of(number: u32) -> Option<Side>
     ensures { result ≡ side_of number }
 {
     match number {

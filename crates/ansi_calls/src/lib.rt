@@ -7,6 +7,7 @@
 
 pub mod answers;
 pub mod blocks;
+pub mod column_edits;
 pub mod columns;
 pub mod edits;
 pub mod lines;

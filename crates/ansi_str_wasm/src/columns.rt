@@ -2,9 +2,11 @@
 ghost use Rattle.ansi_calls.specs.Columns.{TellsWidth, TellsFitting, TellsColumn, Truncates, Pads};
 ghost use Rattle.ansi_calls.specs.Columns.{Slices, Fits, TruncatesAt, ExpandsTabs, Wraps, WrapsWith};
 ghost use Rattle.ansi_calls.specs.Columns.{WritesLines, WritesLink};
+ghost use Rattle.ansi_calls.specs.ColumnSteps.{EditsColumns};
 
 use crate::memory::arena_of;
 use ansi_calls::answers::Answer;
+use ansi_calls::column_edits::{ColumnStep, edit_columns};
 use ansi_calls::columns::{
     column_of, expand_tabs, fit, fitting, link_at, pad, slice, truncate, truncate_with, width,
 };
@@ -125,6 +127,20 @@ pub extern "C" fn ansi_str_raw_expand_tabs(
 {
     let block = OneBlock::new(memory);
     expand_tabs(&arena_of(&block), text, stop, buffer)
+}
+
+/// The text after all edits by columns, each made on the result of the one before.
+#[unsafe(no_mangle)]
+pub extern "C" fn ansi_str_raw_edit_columns(
+    memory: MemoryBlock,
+    text: &[u8],
+    steps: &[ColumnStep<'_>],
+    buffer: &mut [u8],
+) -> Answer
+    ensures { EditsColumns text.now steps.now result buffer.old buffer.new }
+{
+    let block = OneBlock::new(memory);
+    edit_columns(&arena_of(&block), text, steps, buffer)
 }
 
 /// The lines of the text wrapped at `width` columns, ready for display, and where each ends.

@@ -1,8 +1,8 @@
 use Rattle.std.proofs.Common.{rules, refl, sym}
 use Rattle.std.proofs.lemmas.Bool.{true≢false}
 use Rattle.ansi_str.proofs.EditWalkLemmas.{so_far-more, so_far-refused, so_far-lent, so_far-end}
-use Rattle.ansi_calls.specs.Steps.{change_of_step}
-use Rattle.ansi_calls.proofs.StepLemmas.{pattern-at}
+use Rattle.ansi_calls.specs.Steps.{change_of_step, pattern_of}
+use Rattle.ansi_calls.proofs.StepLemmas.{text-at}
 use Rattle.ansi_calls.proofs.edits.edit_in_turn.Goals as goal
 
 -- the text is a borrow
@@ -10,7 +10,7 @@ pub loop-step-init : goal.loop-step-init
 loop-step-init g c = search rules
 
 pub from_utf8_unchecked-pat-requires : goal.from_utf8_unchecked-pat-requires
-from_utf8_unchecked-pat-requires g c = pattern-at c.args.steps.now c.loop-step.step-index _ c.loop-step-test.true c.requires
+from_utf8_unchecked-pat-requires g c = text-at pattern_of c.args.steps.now c.loop-step.step-index _ c.loop-step-test.true c.requires
 
 pub loop-step-preserved : goal.loop-step-preserved
 loop-step-preserved g c =
