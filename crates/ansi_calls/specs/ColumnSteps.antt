@@ -1,5 +1,5 @@
 -- The edits by columns that a caller gives, as changes, and what the call does that makes them.
-use Rattle.std.specs.Prelude.{ℕ, ◌==◌, List, [], ◌∷◌, map, filter_map, Option, None, Some, option_map, is_some, true, if◌then◌else◌}
+use Rattle.std.specs.Prelude.{ℕ, ◌==◌, List, ◌∷◌, map, filter_map, Option, None, Some, option_map, is_some, true, if◌then◌else◌}
 use Rattle.std.specs.List.{list_all}
 use Rattle.ansi_columns.specs.Edits.{Change, Expanded, Sliced, Truncated, Padded, Fitted, edited}
 use Rattle.ansi_calls.specs.declared.answers.Answer.{Answer}
