@@ -186,6 +186,31 @@ static void expect_edits(void) {
     expect("an edit of no kind", ansi_str_edit(TEXT("a"), &unknown, 1, buffer, sizeof buffer).status, ANSI_STR_REFUSED);
 }
 
+/* Each kind of edit by columns, by its result on "a\tbcd". */
+static void expect_column_edits(void) {
+    const struct {
+        ansi_str_column_step step;
+        uint32_t kind, number;
+        const char *wanted;
+    } EDITS[] = {
+        {ansi_str_column_edit_expand(3), ANSI_STR_COLUMNS_EXPAND, 0, "a  bcd"},
+        {ansi_str_column_edit_slice(2, 4), ANSI_STR_COLUMNS_SLICE, 1, "bc"},
+        {ansi_str_column_edit_truncate(4, TEXT("~"), ANSI_STR_START), ANSI_STR_COLUMNS_TRUNCATE, 2, "~bcd"},
+        {ansi_str_column_edit_pad(7, ANSI_STR_RIGHT), ANSI_STR_COLUMNS_PAD, 3, "  a bcd"},
+        {ansi_str_column_edit_fit(6, ANSI_STR_CENTER, TEXT("~")), ANSI_STR_COLUMNS_FIT, 4, "a bcd "},
+    };
+    char buffer[16];
+    for (size_t i = 0; i < sizeof EDITS / sizeof EDITS[0]; i++) {
+        expect(EDITS[i].wanted, EDITS[i].kind, EDITS[i].number);
+        expect(EDITS[i].wanted, EDITS[i].step.kind, EDITS[i].number);
+        ansi_str_answer answer = ansi_str_edit_columns(TEXT("a\tbcd"), &EDITS[i].step, 1, buffer, sizeof buffer);
+        expect(EDITS[i].wanted, answer.status, ANSI_STR_OK);
+        expect(EDITS[i].wanted, answer.len == strlen(EDITS[i].wanted) && memcmp(buffer, EDITS[i].wanted, answer.len) == 0, 1);
+    }
+    ansi_str_column_step unknown = ansi_str_column_edit_of(5, 0, 0, 0, TEXT(""));
+    expect("an edit of no kind", ansi_str_edit_columns(TEXT("a"), &unknown, 1, buffer, sizeof buffer).status, ANSI_STR_REFUSED);
+}
+
 /* Each number of a policy, by what becomes of BEL and of a link. */
 static void expect_policies(void) {
     static const struct {
@@ -241,6 +266,7 @@ int main(void) {
     expect_colors();
     expect_fonts();
     expect_edits();
+    expect_column_edits();
     expect_policies();
     printf("numbers: %ld are as they should be\n", tried);
     return 0;

@@ -46,6 +46,12 @@ int main(void) {
     for (size_t i = 0; i < sizeof edits / sizeof edits[0]; i++) {
         expect("an edit", "the pattern", edits[i].pattern != NULL);
     }
+    const ansi_str_column_step column_edits[] = {ansi_str_column_edit_expand(1), ansi_str_column_edit_slice(1, 2),
+                                                 ansi_str_column_edit_truncate(1, NULL, 0, ANSI_STR_END), ansi_str_column_edit_pad(1, ANSI_STR_LEFT),
+                                                 ansi_str_column_edit_fit(1, ANSI_STR_LEFT, NULL, 0)};
+    for (size_t i = 0; i < sizeof column_edits / sizeof column_edits[0]; i++) {
+        expect("an edit by columns", "the tail", column_edits[i].tail != NULL);
+    }
     call_each();
     is_given = 0;
     call_each();

@@ -109,6 +109,21 @@ static ansi_str_edit_step edit_of(const struct row *r, size_t i) {
     }
 }
 
+/* One edit by columns of a row, which has its kind, an alignment or a side, two numbers and a tail from there on. */
+static ansi_str_column_step column_edit_of(const struct row *r, size_t i) {
+    uint32_t kind = (uint32_t)position(r, i), place = (uint32_t)position(r, i + 1);
+    size_t first = position(r, i + 2), second = position(r, i + 3);
+    const struct text *tail = argument(r, i + 4);
+    switch (kind) {
+    case ANSI_STR_COLUMNS_TRUNCATE:
+        return ansi_str_column_edit_truncate(first, TEXT(tail), place);
+    case ANSI_STR_COLUMNS_FIT:
+        return ansi_str_column_edit_fit(first, place, TEXT(tail));
+    default:
+        return ansi_str_column_edit_of(kind, place, first, second, TEXT(tail));
+    }
+}
+
 /* The number of the header for a word of a row. */
 static uint32_t number_of(const struct text *word) {
     static const struct {
@@ -132,6 +147,16 @@ static ansi_str_edit_step *edits_of(const struct row *r, size_t *count) {
     ansi_str_edit_step *edits = __real_malloc((*count + 1) * sizeof *edits);
     for (size_t i = 0; i < *count; i++) {
         edits[i] = edit_of(r, 4 * i);
+    }
+    return edits;
+}
+
+/* The edits by columns of a row. */
+static ansi_str_column_step *column_edits_of(const struct row *r, size_t *count) {
+    *count = (r->count - 4) / 5;
+    ansi_str_column_step *edits = __real_malloc((*count + 1) * sizeof *edits);
+    for (size_t i = 0; i < *count; i++) {
+        edits[i] = column_edit_of(r, 5 * i);
     }
     return edits;
 }
@@ -216,6 +241,11 @@ static ansi_str_answer call(const struct row *r, char *buffer, size_t len) {
         ansi_str_answer restyled = ansi_str_restyle(TEXT(t), ranges, count, TEXT(argument(r, 0)), buffer, len);
         free(ranges);
         return restyled;
+    } else if (strcmp(name, "edit_columns") == 0) {
+        ansi_str_column_step *column_edits = column_edits_of(r, &count);
+        ansi_str_answer edited = ansi_str_edit_columns(TEXT(t), column_edits, count, buffer, len);
+        free(column_edits);
+        return edited;
     }
     expect("the call is known", strcmp(name, "edit") == 0);
     ansi_str_edit_step *edits = edits_of(r, &count);

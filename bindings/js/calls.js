@@ -8,6 +8,7 @@ export { OutOfMemoryError } from './memory.js';
 
 const ALIGNMENTS = ['left', 'center', 'right'];
 const SIDES = ['end', 'start', 'middle'];
+const COLUMN_KINDS = { expand: 0, slice: 1, truncate: 2, pad: 3, fit: 4 };
 const KINDS = { cut: 0, left: 1, right: 2, part: 3, prefix: 4, suffix: 5, trim: 6 };
 /** The largest number that is passed on: past the end of any text. */
 const END = Number.MAX_SAFE_INTEGER;
@@ -16,6 +17,13 @@ const END = Number.MAX_SAFE_INTEGER;
 function isSo(name, text, pattern) {
   return called([text, pattern], [], noRoom,
     (exports, frame) => exports[name](frame.head[0], ...frame.texts[0], ...frame.texts[1]), told) !== null;
+}
+
+/** The text that an export makes by all steps, or null if one is refused. */
+function stepped(name, text, steps) {
+  const texts = [text, ...steps.map((step) => step.pattern)];
+  return called(texts, steps, roomForOne,
+    (exports, frame) => exports[name](...frame.head, ...frame.texts[0], BigInt(frame.steps), BigInt(steps.length), ...frame.out), written);
 }
 
 /** The exports of the module: what each takes, the room for its result, and what is read of it. Positions are bytes. */
@@ -99,12 +107,9 @@ const raw = {
     return called([text], [], noRoom, (exports, frame) => exports.ansi_str_raw_is_whole(frame.head[0], ...frame.texts[0]), told) !== null;
   },
 
-  /** The text after all steps, or null if one is refused. */
-  edit(text, steps) {
-    const texts = [text, ...steps.map((step) => step.pattern)];
-    return called(texts, steps, roomForOne,
-      (exports, frame) => exports.ansi_str_raw_edit(...frame.head, ...frame.texts[0], BigInt(frame.steps), BigInt(steps.length), ...frame.out), written);
-  },
+  edit: (text, steps) => stepped('ansi_str_raw_edit', text, steps),
+
+  editColumns: (text, steps) => stepped('ansi_str_raw_edit_columns', text, steps),
 
   split(text, pattern) {
     return called([text, pattern], [], roomForList(text, BYTES_OF_END),
@@ -638,8 +643,14 @@ function indexOf(name, word, words) {
   return words.indexOf(word);
 }
 
-export function truncate(text, width, options = '') {
+/** The tail, and the side at which a text is truncated. */
+function truncationOf(options = '') {
   const { tail = '', side = 'end' } = typeof options === 'object' && options !== null ? options : { tail: options };
+  return { tail, side };
+}
+
+export function truncate(text, width, options) {
+  const { tail, side } = truncationOf(options);
   return raw.truncate(textOf('text', text), numberOf('width', width), textOf('tail', tail), indexOf('side', side, SIDES));
 }
 
@@ -659,6 +670,34 @@ export function sliceColumns(text, start = 0, end = END) {
 
 export function expandTabs(text, stop = 8) {
   return raw.expandTabs(textOf('text', text), numberOf('stop', stop));
+}
+
+/** The edit by columns as a step of the library: its kind, its side or alignment (`place`), its numbers, and its tail as a pattern. */
+function columnStepOf(edit) {
+  const [name, ...more] = Array.isArray(edit) ? edit : [];
+  if (typeof name !== 'string' || !Object.hasOwn(COLUMN_KINDS, name)) {
+    throw new TypeError('an edit must be an array that begins with the name of an edit by columns');
+  }
+  const step = { kind: COLUMN_KINDS[name], place: 0, first: 0, second: 0, pattern: '' };
+  if (name === 'expand') {
+    const [stop = 8] = more;
+    step.first = numberOf('stop', stop);
+  } else if (name === 'slice') {
+    const [start = 0, end = END] = more;
+    [step.first, step.second] = [numberOf('start', start), numberOf('end', end)];
+  } else if (name === 'truncate') {
+    const { tail, side } = truncationOf(more[1]);
+    [step.first, step.pattern, step.place] = [numberOf('width', more[0]), textOf('tail', tail), indexOf('side', side, SIDES)];
+  } else {
+    const [width, alignment = 'left', tail = ''] = more;
+    [step.first, step.place] = [numberOf('width', width), indexOf('alignment', alignment, ALIGNMENTS)];
+    step.pattern = name === 'fit' ? textOf('tail', tail) : '';
+  }
+  return step;
+}
+
+export function editColumns(text, edits) {
+  return raw.editColumns(textOf('text', text), [...edits].map(columnStepOf));
 }
 
 export function wrap(text, width, { firstIndent = '', indent = '' } = {}) {

@@ -276,6 +276,20 @@ export function sliceColumns(text: string, start?: number, end?: number): string
  */
 export function expandTabs(text: string, stop?: number): string;
 
+/** An edit by columns, with what the call of its name takes after the text: `expandTabs`, `sliceColumns`, `truncate`, `pad`, `fit`. */
+export type ColumnEdit =
+  | ['expand', number?]
+  | ['slice', number?, number?]
+  | ['truncate', number, (string | { tail?: string; side?: 'end' | 'start' | 'middle' })?]
+  | ['pad', number, ('left' | 'center' | 'right')?]
+  | ['fit', number, ('left' | 'center' | 'right')?, string?];
+
+/**
+ * The text after all edits by columns, each made on the result of the one before. It is on one line and safe, and nothing is open at
+ * its end, also if there is no edit but expansions of TABs.
+ */
+export function editColumns(text: string, edits: Iterable<ColumnEdit>): string;
+
 /**
  * The text wrapped to lines of `width` columns, each safe: SGRs, clean links (OSC 8) and printing characters stay, a TAB becomes a
  * blank, and the rest is left out. Each line closes the link and style it leaves open; the next reopens them.

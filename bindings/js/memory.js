@@ -123,9 +123,10 @@ class Frame {
     this.reserve(this.size + UNIT * texts.length);
     this.texts = texts.map((text) => this.put(text));
     this.behind = this.free;
-    steps.forEach(({ kind, first, second }, index) => {
+    steps.forEach(({ kind, place = 0, first, second }, index) => {
       const at = this.steps + index * STEP;
       this.view.setUint32(at, kind, true);
+      this.view.setUint32(at + 4, place, true);
       this.setWord(at + 8, BigInt(first));
       this.setWord(at + 16, BigInt(second));
       // (the text before the patterns of the steps)

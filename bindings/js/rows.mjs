@@ -67,6 +67,19 @@ function orNull(call) {
   }
 }
 
+/** The edits by columns of a row, each of five fields, or null if one has no such kind, side or alignment. */
+function columnEditsOf(fields) {
+  const [sides, alignments] = [['end', 'start', 'middle'], ['left', 'center', 'right']];
+  const edits = Array.from({ length: fields.length / 5 }, (_, index) => {
+    const [kind, place, first, second, tail] = fields.slice(5 * index, 5 * index + 5);
+    const [side, alignment] = [sides[place], alignments[place]];
+    const end = Math.min(Number(second), Number.MAX_SAFE_INTEGER);
+    return [['expand', Number(first)], ['slice', Number(first), end], side && ['truncate', Number(first), { tail, side }],
+      alignment && ['pad', Number(first), alignment], alignment && ['fit', Number(first), alignment, tail]][kind];
+  });
+  return edits.includes(undefined) ? null : edits;
+}
+
 /** What the calls of a row return, each with what the row says. */
 function answersOf(ansi, call, found, want, text, more) {
   const [first, second] = more;
@@ -113,6 +126,10 @@ function answersOf(ansi, call, found, want, text, more) {
       return [[ansi.edit(text, [['prefix', first]]), found], [ansi.stripPrefix(text, first), found]];
     case 'strip_suffix':
       return [[ansi.edit(text, [['suffix', first]]), found], [ansi.stripSuffix(text, first), found]];
+    case 'edit_columns': {
+      const edits = columnEditsOf(more);
+      return edits === null ? [] : [[ansi.editColumns(text, edits), found]];
+    }
     case 'starts_with':
       return [[ansi.startsWith(text, first), found !== null]];
     case 'ends_with':

@@ -47,11 +47,30 @@ def or_none(call, *arguments):
         return None
 
 
+def column_edit_of(kind, place, first, second, tail):
+    """An edit by columns of a row. IndexError: there is no such kind, side or alignment."""
+    place, first, second = int(place), int(first), int(second)
+    made = [lambda: ansi_str.Expand(first), lambda: ansi_str.Slice(first, second),
+            lambda: ansi_str.Truncate(first, tail, ansi_str.SIDES[place]), lambda: ansi_str.Pad(first, ansi_str.ALIGNMENTS[place]),
+            lambda: ansi_str.Fit(first, ansi_str.ALIGNMENTS[place], tail)]
+    return made[int(kind)]()
+
+
+def edited_by_columns(text, *fields):
+    """What the edits by columns of a row make of its text. None if there is no such edit."""
+    try:
+        edits = [column_edit_of(*fields[at:at + 5]) for at in range(0, len(fields), 5)]
+    except IndexError:
+        return None
+    return ansi_str.edit_columns(text, edits)
+
+
 # what each other call of a row returns
 MADE = {
     "strip": lambda text: [ansi_str.strip(text)],
     "trim": lambda text: [ansi_str.trim(text), ansi_str.edit(text, ansi_str.Trim())],
     "cut": lambda text, start, end: [ansi_str.edit(text, [ansi_str.Cut(start, end)])],
+    "edit_columns": lambda text, *fields: [edited_by_columns(text, *fields)],
     "left": lambda text, mid: [ansi_str.left(text, mid), ansi_str.edit(text, [ansi_str.Left(mid)])],
     "right": lambda text, mid: [ansi_str.right(text, mid), ansi_str.edit(text, [ansi_str.Right(mid)])],
     "strip_prefix": lambda text, pattern: [ansi_str.strip_prefix(text, pattern), ansi_str.edit(text, [ansi_str.Prefix(pattern)])],
@@ -203,7 +222,7 @@ class Rows(unittest.TestCase):
 CALLS = {"strip": [], "cut": [0], "left": [0], "right": [0], "part": [",", 0], "strip_prefix": [""], "strip_suffix": [""],
          "trim": [], "width": [], "fitting": [1], "column_of": [0], "truncate": [1], "pad": [1], "fit": [1], "slice_columns": [0],
          "expand_tabs": [8], "wrap": [1], "lines": [1], "iter_lines": [1], "find": [""], "starts_with": [""], "ends_with": [""], "has_any": [], "is_whole": [], "split": [","],
-         "iter_split": [","], "blocks": [], "iter_blocks": [], "pen_after": [], "edit": [[]], "sanitize": [], "is_safe": [], "link_at": [0],
+         "iter_split": [","], "blocks": [], "iter_blocks": [], "pen_after": [], "edit": [[]], "edit_columns": [[]], "sanitize": [], "is_safe": [], "link_at": [0],
          "matches": ["a"], "find_from": [0, "a"], "restyle": [[(0, 0)], "1"], "mark": ["a", "1"], "remove": [0, 0],
          "replace": [0, 0, "b"], "insert": [0, "b"], "replace_all": ["a", "b"], "link": [0, 0, "b"], "unlink": [], "links": []}
 PATTERNED = ["matches", "mark", "replace_all", "part", "strip_prefix", "strip_suffix", "find", "starts_with", "ends_with", "split", "iter_split"]

@@ -1,5 +1,6 @@
 //! The calls of the library for C, over texts: the one module that isn't safe.
 
+use crate::columns::ColumnEdit;
 use crate::style::{Color, Style};
 use crate::Edit;
 use std::borrow::Cow;
@@ -182,6 +183,42 @@ impl RawEdit {
             second,
             pattern: pattern.as_ptr(),
             pattern_len: pattern.len(),
+        }
+    }
+}
+
+/// An edit by columns by the number of its kind, that of its side or alignment, its columns, and its tail.
+#[repr(C)]
+struct RawColumnEdit {
+    kind: u32,
+    place: u32,
+    first: usize,
+    second: usize,
+    tail: Bytes,
+    tail_len: usize,
+}
+
+impl RawColumnEdit {
+    /// An edit that doesn't take what isn't given has 0 and an empty tail for it.
+    fn new(edit: &ColumnEdit<'_>) -> RawColumnEdit {
+        let (kind, place, first, second, tail) = match *edit {
+            ColumnEdit::Expand(stop) => (0, 0, stop, 0, ""),
+            ColumnEdit::Slice { start, end } => (1, 0, start, end.unwrap_or(usize::MAX), ""),
+            ColumnEdit::Truncate { width, tail, side } => (2, side as u32, width, 0, tail),
+            ColumnEdit::Pad { width, alignment } => (3, alignment as u32, width, 0, ""),
+            ColumnEdit::Fit {
+                width,
+                alignment,
+                tail,
+            } => (4, alignment as u32, width, 0, tail),
+        };
+        RawColumnEdit {
+            kind,
+            place,
+            first,
+            second,
+            tail: tail.as_ptr(),
+            tail_len: tail.len(),
         }
     }
 }
@@ -389,6 +426,14 @@ extern "C" {
         m: usize,
     ) -> Answer;
     fn ansi_str_raw_expand_tabs(t: Bytes, n: usize, stop: usize, b: Room, m: usize) -> Answer;
+    fn ansi_str_raw_edit_columns(
+        t: Bytes,
+        n: usize,
+        edits: *const RawColumnEdit,
+        k: usize,
+        b: Room,
+        m: usize,
+    ) -> Answer;
     fn ansi_str_raw_wrap(
         t: Bytes,
         n: usize,
@@ -858,6 +903,15 @@ pub(crate) fn expand_tabs(text: &str, stop: usize) -> String {
     always(written(text.len() + LONGEST_CLOSE, |b, m| {
         // SAFETY: a `str`, and the room; any number may be a stop
         unsafe { ansi_str_raw_expand_tabs(text.as_ptr(), text.len(), stop, b, m) }
+    }))
+}
+
+pub(crate) fn edit_columns(text: &str, edits: &[ColumnEdit<'_>]) -> String {
+    let edits: Vec<RawColumnEdit> = edits.iter().map(RawColumnEdit::new).collect();
+    always(written(text.len() + LONGEST_START_AND_CLOSE, |b, m| {
+        let (t, n, k) = (text.as_ptr(), text.len(), edits.len());
+        // SAFETY: a `str`, edits whose tails are `str`s that outlive the call, and the room; any numbers may be columns
+        unsafe { ansi_str_raw_edit_columns(t, n, edits.as_ptr(), k, b, m) }
     }))
 }
 

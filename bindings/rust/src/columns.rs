@@ -122,6 +122,67 @@ impl<'a> Wrap<'a> {
     }
 }
 
+/// One edit of a text by columns; [`edit_columns`] makes a list of them in turn.
+///
+/// ```
+/// use ansi_str::columns::{edit_columns, ColumnEdit};
+/// let slice = ColumnEdit::Slice { start: 2, end: None };
+/// assert_eq!(edit_columns("a\tbc", &[ColumnEdit::Expand(4), slice]), "  bc");
+/// ```
+#[derive(Debug, Clone, Copy, PartialEq, Eq)]
+pub enum ColumnEdit<'a> {
+    /// Each TAB becomes blanks up to the next multiple of this many columns:
+    /// [`ansi_expand_tabs`](AnsiColumns::ansi_expand_tabs). After any other edit a text has no TAB.
+    Expand(usize),
+    /// The columns of a range: [`ansi_slice`](AnsiColumns::ansi_slice). The first column is 0.
+    Slice {
+        /// The first column that stays.
+        start: usize,
+        /// The one after the last that stays; `None` is the end of the text.
+        end: Option<usize>,
+    },
+    /// The text truncated: [`ansi_truncate_with`](AnsiColumns::ansi_truncate_with).
+    Truncate {
+        /// The greatest number of columns.
+        width: usize,
+        /// What is written where the text is cut.
+        tail: &'a str,
+        /// Where the text is cut.
+        side: Side,
+    },
+    /// The text padded with blanks: [`ansi_pad`](AnsiColumns::ansi_pad).
+    Pad {
+        /// The smallest number of columns.
+        width: usize,
+        /// The place of the text among the blanks.
+        alignment: Alignment,
+    },
+    /// The text truncated and then padded: [`ansi_fit`](AnsiColumns::ansi_fit).
+    Fit {
+        /// The number of columns.
+        width: usize,
+        /// The place of the text among the blanks.
+        alignment: Alignment,
+        /// What is written where the text is cut.
+        tail: &'a str,
+    },
+}
+
+/// The text after all edits by columns, each made on the result of the one before. It is on one line and safe, and nothing is
+/// open at its end, also if there is no edit but expansions of TABs. The result is borrowed if it is a prefix of the text.
+///
+/// ```
+/// use ansi_str::columns::{edit_columns, Alignment, ColumnEdit, Side};
+/// let cut = ColumnEdit::Truncate { width: 4, tail: "…", side: Side::End };
+/// let alignment = Alignment::Right;
+/// let pad = ColumnEdit::Pad { width: 6, alignment };
+/// assert_eq!(edit_columns("\x1b[31m日本語\x1b[39m", &[cut, pad]), "   \x1b[31m日\x1b[39m…");
+/// ```
+#[must_use]
+pub fn edit_columns<'t>(text: &'t str, edits: &[ColumnEdit<'_>]) -> Cow<'t, str> {
+    front_or_owned(text, calls::edit_columns(text, edits))
+}
+
 /// Calls by the columns of a text, taken as if its sequences weren't there.
 pub trait AnsiColumns: AnsiStr {
     /// The display width of what a terminal shows: of the plain text, with a blank for each TAB and line feed, and without

@@ -1,6 +1,6 @@
 //! Passes the rows of texts and results, which `rows/README.md` describes.
 
-use ansi_str::columns::{Alignment, AnsiColumns, Side, Truncation, Wrap};
+use ansi_str::columns::{edit_columns, Alignment, AnsiColumns, ColumnEdit, Side, Truncation, Wrap};
 use ansi_str::restyle::{AnsiLink, AnsiRestyle};
 use ansi_str::safe::{sanitize_bytes, AnsiSafe, Links, Policy, Rest};
 use ansi_str::{edit, get_blocks, is_whole, part, AnsiBlock, AnsiStr, Color, Edit};
@@ -168,6 +168,37 @@ fn edit_of(fields: &[String]) -> Option<Edit<'_>> {
     })
 }
 
+/// An edit by columns of a row: its kind, its alignment or side, two numbers and a tail. `None` if it has none of those that
+/// there are.
+fn column_edit_of(fields: &[String]) -> Option<ColumnEdit<'_>> {
+    let (place, width, end) = (number(&fields[1]), number(&fields[2]), number(&fields[3]));
+    let alignment = [Alignment::Left, Alignment::Center, Alignment::Right];
+    let side = [Side::End, Side::Start, Side::Middle];
+    let tail = &*fields[4];
+    Some(match &*fields[0] {
+        "0" => ColumnEdit::Expand(width),
+        "1" => ColumnEdit::Slice {
+            start: width,
+            end: (end < usize::MAX).then_some(end),
+        },
+        "2" => ColumnEdit::Truncate {
+            width,
+            tail,
+            side: *side.get(place)?,
+        },
+        "3" => ColumnEdit::Pad {
+            width,
+            alignment: *alignment.get(place)?,
+        },
+        "4" => ColumnEdit::Fit {
+            width,
+            alignment: *alignment.get(place)?,
+            tail,
+        },
+        _ => return None,
+    })
+}
+
 /// What a row says of the order of two styles, if equality agrees with it.
 fn order_of(style: &ansi_str::Style, other: &ansi_str::Style) -> Option<&'static str> {
     let order = style.cmp(other);
@@ -200,6 +231,10 @@ fn pass(call: &str, status: &str, want: &str, text: &str, more: &[String]) -> Op
             Some(edits) => is(edit(text, &edits)),
             None => return None,
         },
+        "edit_columns" => {
+            let edits: Option<Vec<_>> = more.chunks(5).map(column_edit_of).collect();
+            is(Some(edit_columns(text, &edits?)))
+        }
         "is_whole" => is_whole(text) == is_ok,
         "split_at" => {
             let (left, right) = text.ansi_split_at(position(0));

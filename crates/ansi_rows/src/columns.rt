@@ -4,6 +4,7 @@ use crate::rows::Row;
 use crate::texts::{check_cut_in, check_indented_lines, check_lines};
 use ansi_columns::AnsiColumns;
 use ansi_columns::columns::fitting;
+use ansi_columns::edits::{ColumnEdit, edit_columns};
 use ansi_columns::fit::fit;
 use ansi_columns::lines::Lines;
 use ansi_columns::shown::{Alignment, pad, truncate};
@@ -32,6 +33,7 @@ pub enum ColumnCall<'r> {
     ExpandTabs(usize),
     /// The columns from one up to another.
     Slice(usize, usize),
+    EditColumns(&'r [ColumnEdit<'r>]),
     /// The places of the lines of a wrapped text.
     Lines(usize),
     Wrap(usize),
@@ -68,6 +70,63 @@ fn truncation_of<'r>(row: &Row<'r>) -> Option<Truncation<'r>> {
 fn wrap_of<'r>(row: &Row<'r>) -> Option<Wrap<'r>> {
     let to = Wrap::at(row.number(0)?).first_indent(row.argument(1)?);
     Some(to.indent(row.argument(2)?))
+}
+
+fn nth_alignment(number: usize) -> Option<Alignment> {
+    match number {
+        0 => Some(Alignment::Left),
+        1 => Some(Alignment::Center),
+        2 => Some(Alignment::Right),
+        _ => None,
+    }
+}
+
+fn nth_side(number: usize) -> Option<Side> {
+    match number {
+        0 => Some(Side::End),
+        1 => Some(Side::Start),
+        2 => Some(Side::Middle),
+        _ => None,
+    }
+}
+
+/// An edit by columns of a row: its kind, an alignment or a side, two numbers and a tail.
+fn column_edit_of<'r>(row: &Row<'r>, at: usize) -> Option<ColumnEdit<'r>> {
+    let place = row.number(at.saturating_add(1))?;
+    let width = row.number(at.saturating_add(2))?;
+    let end = row.number(at.saturating_add(3))?;
+    let tail = row.argument(at.saturating_add(4))?;
+    Some(match row.number(at)? {
+        0 => ColumnEdit::Expand(width),
+        1 => ColumnEdit::Slice {
+            start: width,
+            end: Some(end),
+        },
+        2 => ColumnEdit::Truncate {
+            width,
+            tail,
+            side: nth_side(place)?,
+        },
+        3 => ColumnEdit::Pad {
+            width,
+            alignment: nth_alignment(place)?,
+        },
+        4 => ColumnEdit::Fit {
+            width,
+            alignment: nth_alignment(place)?,
+            tail,
+        },
+        _ => return None,
+    })
+}
+
+/// The edits by columns of a row, each of five fields. `None` if there is no such edit.
+pub fn column_edits_of<'r>(alloc: Global, row: &Row<'r>) -> Option<Vec<ColumnEdit<'r>>> {
+    let mut edits = Vec::new(alloc);
+    for at in (0..row.more.len()).step_by(5) {
+        edits.push(column_edit_of(row, at)?).ok()?;
+    }
+    Some(edits)
 }
 
 impl<'r> ColumnCall<'r> {
@@ -145,6 +204,9 @@ pub fn make_column_call<T: AnsiStr>(check: &mut Check<'_>, text: &T, call: Colum
         ColumnCall::TruncateWith(to) => check.text_or_err(text.ansi_truncate_with(alloc, &to)),
         ColumnCall::ExpandTabs(stop) => check.text_or_err(text.ansi_expand_tabs(alloc, stop)),
         ColumnCall::Slice(start, end) => check.text_or_err(text.ansi_slice(alloc, start..end)),
+        ColumnCall::EditColumns(edits) => {
+            check.text_or_err(edit_columns(alloc, text.as_text(), edits));
+        }
         ColumnCall::Lines(width) => check_places(check, Lines::new(text.as_text(), width)),
         ColumnCall::Wrap(width) => check_lines(check, text.ansi_wrap(alloc, width)),
         ColumnCall::WrapWith(to) => check_indented_lines(check, text.ansi_wrap_with(alloc, &to)),
@@ -170,6 +232,7 @@ pub fn make_column_call_in(check: &mut Check<'_>, heap: &Refusing<Global>, call:
         ColumnCall::Slice(start, end) => {
             check.text_or_err(slice(heap, text, start, Some(end)));
         }
+        ColumnCall::EditColumns(edits) => check.text_or_err(edit_columns(heap, text, edits)),
         ColumnCall::Wrap(width) => check_lines(check, wrap(heap, text, width)),
         ColumnCall::WrapWith(to) => check_indented_lines(check, wrap_with(heap, text, &to)),
         _ => make_column_call(check, &text, call),

@@ -1,6 +1,7 @@
 //! A row's call, made in every possible way.
 use crate::calls::Call;
 use crate::check::Check;
+use crate::columns::{ColumnCall, column_edits_of};
 use crate::ranges::ranges_of;
 use crate::rows::Row;
 use crate::texts::{make_call, make_call_in};
@@ -135,6 +136,15 @@ pub fn try_row(check: &mut Check<'_>) -> Option<()> {
     match row.call {
         "cut" => try_ranges(check, row.number(0)?, row.number(1)?),
         "edit" => try_edits(check, edits_of(check.alloc, &row)?.as_slice()),
+        // (an edit that is refused can't be made here)
+        "edit_columns" if row.status == "2" => {}
+        "edit_columns" => {
+            let edits = column_edits_of(check.alloc, &row)?;
+            try_call(
+                check,
+                &Call::Columns(ColumnCall::EditColumns(edits.as_slice())),
+            );
+        }
         _ => try_call(check, &Call::new(&row)?),
     }
     Some(())

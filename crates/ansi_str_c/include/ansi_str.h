@@ -280,6 +280,30 @@ typedef struct {
     size_t pattern_len;
 } ansi_str_edit_step;
 
+/* The kinds of edits by columns. */
+enum {
+    /* ansi_str_expand_tabs with stops of `first` columns */
+    ANSI_STR_COLUMNS_EXPAND = 0,
+    /* ansi_str_slice from `first` up to `second` */
+    ANSI_STR_COLUMNS_SLICE = 1,
+    /* ansi_str_truncate_with to `first` columns at the side `place` */
+    ANSI_STR_COLUMNS_TRUNCATE = 2,
+    /* ansi_str_pad and ansi_str_fit to `first` columns with the alignment `place` */
+    ANSI_STR_COLUMNS_PAD = 3,
+    ANSI_STR_COLUMNS_FIT = 4
+};
+
+/* One edit of a text by columns. The pointer is never NULL; the functions below, from ansi_str_column_edit_expand on, make an
+   edit with a good one. Edits are read only during a call, so their tails must live until it returns. */
+typedef struct {
+    uint32_t kind;
+    uint32_t place;
+    size_t first;
+    size_t second;
+    const uint8_t *tail;
+    size_t tail_len;
+} ansi_str_column_step;
+
 /* The calls themselves, for other languages. Here no pointer may be NULL, whatever its length. The functions below
    have the same names without `raw`; their comments say what each call does. */
 ansi_str_answer ansi_str_raw_strip(const uint8_t *text, size_t text_len, uint8_t *buffer, size_t buffer_len);
@@ -367,6 +391,8 @@ ansi_str_answer ansi_str_raw_slice(const uint8_t *text, size_t text_len, size_t 
                                    size_t buffer_len);
 ansi_str_answer ansi_str_raw_expand_tabs(const uint8_t *text, size_t text_len, size_t stop, uint8_t *buffer,
                                          size_t buffer_len);
+ansi_str_answer ansi_str_raw_edit_columns(const uint8_t *text, size_t text_len, const ansi_str_column_step *edits,
+                                          size_t edits_len, uint8_t *buffer, size_t buffer_len);
 ansi_str_answers ansi_str_raw_wrap(const uint8_t *text, size_t text_len, size_t width, uint8_t *buffer, size_t buffer_len,
                                    size_t *ends, size_t ends_len);
 ansi_str_answers ansi_str_raw_wrap_with(const uint8_t *text, size_t text_len, size_t width, const uint8_t *first_indent,
@@ -920,6 +946,53 @@ static inline ansi_str_answer ansi_str_slice(const char *text, size_t text_len, 
 static inline ansi_str_answer ansi_str_expand_tabs(const char *text, size_t text_len, size_t stop, char *buffer,
                                                    size_t buffer_len) {
     return ansi_str_raw_expand_tabs(ansi_str_bytes(text), text_len, stop, ansi_str_room(buffer), buffer_len);
+}
+
+/* These functions make one edit each, for ansi_str_edit_columns. */
+static inline ansi_str_column_step ansi_str_column_edit_of(uint32_t kind, uint32_t place, size_t first, size_t second,
+                                                           const char *tail, size_t tail_len) {
+    ansi_str_column_step step;
+    step.kind = kind;
+    step.place = place;
+    step.first = first;
+    step.second = second;
+    step.tail = ansi_str_bytes(tail);
+    step.tail_len = tail_len;
+    return step;
+}
+
+static inline ansi_str_column_step ansi_str_column_edit_expand(size_t stop) {
+    return ansi_str_column_edit_of(ANSI_STR_COLUMNS_EXPAND, 0, stop, 0, NULL, 0);
+}
+
+static inline ansi_str_column_step ansi_str_column_edit_slice(size_t start, size_t end) {
+    return ansi_str_column_edit_of(ANSI_STR_COLUMNS_SLICE, 0, start, end, NULL, 0);
+}
+
+static inline ansi_str_column_step ansi_str_column_edit_truncate(size_t width, const char *tail, size_t tail_len,
+                                                                 uint32_t side) {
+    return ansi_str_column_edit_of(ANSI_STR_COLUMNS_TRUNCATE, side, width, 0, tail, tail_len);
+}
+
+static inline ansi_str_column_step ansi_str_column_edit_pad(size_t width, uint32_t alignment) {
+    return ansi_str_column_edit_of(ANSI_STR_COLUMNS_PAD, alignment, width, 0, NULL, 0);
+}
+
+static inline ansi_str_column_step ansi_str_column_edit_fit(size_t width, uint32_t alignment, const char *tail,
+                                                            size_t tail_len) {
+    return ansi_str_column_edit_of(ANSI_STR_COLUMNS_FIT, alignment, width, 0, tail, tail_len);
+}
+
+/* The text after all edits by columns, each made on the result of the one before, as the call of its name makes it. The result
+   is on one line and safe, and nothing is open at its end: if there is no edit but expansions of TABs, the text is then padded to
+   0 columns, as by ansi_str_pad. ANSI_STR_NOT_UTF8: the text or a tail isn't UTF-8, also the tail of an edit which takes none.
+   ANSI_STR_REFUSED: an edit has no such kind, alignment or side. May allocate for any text.
+   "a\tbc" with stops of 4 columns and then the columns from 2 on gives "  bc". */
+static inline ansi_str_answer ansi_str_edit_columns(const char *text, size_t text_len, const ansi_str_column_step *edits,
+                                                    size_t edits_len, char *buffer, size_t buffer_len) {
+    ansi_str_column_step none = ansi_str_column_edit_pad(0, ANSI_STR_LEFT);
+    return ansi_str_raw_edit_columns(ansi_str_bytes(text), text_len, edits == NULL ? &none : edits, edits_len,
+                                     ansi_str_room(buffer), buffer_len);
 }
 
 /* The text wrapped to `width` columns, each line safe: SGRs, clean links (OSC 8) and printing characters stay, a TAB becomes a

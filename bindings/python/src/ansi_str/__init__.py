@@ -36,10 +36,11 @@ The calls, each of which has an example in its own help, such as `help(ansi_str.
     replace(text, start, end, new)     insert(text, position, new)
     replace_all(text, pattern, new)    link(text, start, end, address)
     unlink(text)                       links(text)
-    pen_after(text)
+    pen_after(text)                    edit_columns(text, edits)
 
 The classes, each with a help of its own: `Block` and `Style`, which `blocks` returns, `Link`, which `links` returns, `Pen`, which
-`pen_after` returns, and the edits `Cut`, `Left`, `Right`, `Part`, `Prefix`, `Suffix` and `Trim`. `import *` leaves them out.
+`pen_after` returns; the edits `Cut`, `Left`, `Right`, `Part`, `Prefix`, `Suffix` and `Trim`; and the edits by columns `Expand`,
+`Slice`, `Truncate`, `Pad` and `Fit`. `import *` leaves them out.
 
 >>> log = "\\x1b[31mred\\x1b[39m and plain"
 >>> strip(log)
@@ -69,7 +70,7 @@ __all__ = [
     "replace", "insert", "replace_all", "link", "unlink", "links",
     "sanitize", "is_safe",
     "split", "iter_split", "blocks", "iter_blocks", "pen_after", "ATTRIBUTES", "COLORS",
-    "edit",
+    "edit", "edit_columns",
 ]
 
 # the attributes by their bits, and the colors that codes name by their last digits, and the same bright
@@ -371,6 +372,26 @@ def _index(name: str, word: str, words: Tuple[str, ...]) -> int:
     return words.index(word)
 
 
+def _truncate_step(width: int, tail: str, side: Side) -> _Step:
+    return _TRUNCATE, _position("width", width), _index("side", side, SIDES), _utf8("tail", tail)
+
+
+def _pad_step(width: int, alignment: Alignment) -> _Step:
+    return _PAD, _position("width", width), _index("alignment", alignment, ALIGNMENTS), b""
+
+
+def _fit_step(width: int, alignment: Alignment, tail: str) -> _Step:
+    return _FIT, _position("width", width), _index("alignment", alignment, ALIGNMENTS), _utf8("tail", tail)
+
+
+def _slice_step(start: int, end: Optional[int]) -> _Step:
+    return _SLICE, _position("start", start), _LAST if end is None else _position("end", end), b""
+
+
+def _expand_step(stop: int) -> _Step:
+    return _EXPAND_TABS, _position("stop", stop), 0, b""
+
+
 def truncate(text: str, width: int, tail: str = "", side: Side = "end") -> str:
     """The text truncated to `width` columns, on one line and safe: SGRs, clean links (OSC 8) and printing characters stay, TAB
     and line ends become a blank, and the rest is left out. If it is truncated and the tail fits, the tail follows, shown
@@ -383,8 +404,7 @@ def truncate(text: str, width: int, tail: str = "", side: Side = "end") -> str:
     >>> truncate("/usr/local/bin", 8, "…", side="middle")
     '/usr…bin'
     """
-    step = _TRUNCATE, _position("width", width), _index("side", side, SIDES), _utf8("tail", tail)
-    return _edited(text, step)  # type: ignore[no-any-return]
+    return _edited(text, _truncate_step(width, tail, side))  # type: ignore[no-any-return]
 
 
 def pad(text: str, width: int, alignment: Alignment = "left") -> str:
@@ -395,8 +415,7 @@ def pad(text: str, width: int, alignment: Alignment = "left") -> str:
     >>> pad("\\x1b[41mab", 5, "center")
     ' \\x1b[41mab\\x1b[49m  '
     """
-    step = _PAD, _position("width", width), _index("alignment", alignment, ALIGNMENTS), b""
-    return _edited(text, step)  # type: ignore[no-any-return]
+    return _edited(text, _pad_step(width, alignment))  # type: ignore[no-any-return]
 
 
 def fit(text: str, width: int, alignment: Alignment = "left", tail: str = "") -> str:
@@ -405,8 +424,7 @@ def fit(text: str, width: int, alignment: Alignment = "left", tail: str = "") ->
     >>> fit("\\x1b[41mab", 4), fit("\\x1b[41mabcdef", 4, tail="…")
     ('\\x1b[41mab\\x1b[49m  ', '\\x1b[41mabc\\x1b[49m…')
     """
-    step = _FIT, _position("width", width), _index("alignment", alignment, ALIGNMENTS), _utf8("tail", tail)
-    return _edited(text, step)  # type: ignore[no-any-return]
+    return _edited(text, _fit_step(width, alignment, tail))  # type: ignore[no-any-return]
 
 
 def slice_columns(text: str, start: int = 0, end: Optional[int] = None) -> str:
@@ -417,8 +435,7 @@ def slice_columns(text: str, start: int = 0, end: Optional[int] = None) -> str:
     >>> slice_columns("\\x1b[31m日本語\\x1b[39m", 1, 4)
     '\\x1b[31m 本\\x1b[39m'
     """
-    last = _LAST if end is None else _position("end", end)
-    return _edited(text, (_SLICE, _position("start", start), last, b""))  # type: ignore[no-any-return]
+    return _edited(text, _slice_step(start, end))  # type: ignore[no-any-return]
 
 
 def expand_tabs(text: str, stop: int = 8) -> str:
@@ -428,7 +445,7 @@ def expand_tabs(text: str, stop: int = 8) -> str:
     >>> expand_tabs("a\\x1b[4m\\tb\\n日\\tc", 4)
     'a\\x1b[4m   b\\n日  c'
     """
-    return _edited(text, (_EXPAND_TABS, _position("stop", stop), 0, b""))  # type: ignore[no-any-return]
+    return _edited(text, _expand_step(stop))  # type: ignore[no-any-return]
 
 
 def wrap(text: str, width: int, first_indent: str = "", indent: str = "") -> List[str]:
@@ -745,6 +762,76 @@ def edit(text: str, edits: Union[Edit, Iterable[Edit]]) -> Optional[str]:
     if isinstance(edits, (list, tuple, Iterator)):
         return _edited(text, *map(_step_of, edits))  # type: ignore[no-any-return]
     raise TypeError("edits must be an edit or a list of edits, not {}".format(type(edits).__name__))
+
+
+class Expand(NamedTuple):
+    """The text with each TAB expanded, as by `expand_tabs`. After any other edit by columns a text has no TAB."""
+    stop: int = 8
+
+
+class Slice(NamedTuple):
+    """The columns of the text from one up to another or the last one, as by `slice_columns`."""
+    start: int = 0
+    end: Optional[int] = None
+
+
+class Truncate(NamedTuple):
+    """The text truncated, as by `truncate`."""
+    width: int
+    tail: str = ""
+    side: Side = "end"
+
+
+class Pad(NamedTuple):
+    """The text padded with blanks, as by `pad`."""
+    width: int
+    alignment: Alignment = "left"
+
+
+class Fit(NamedTuple):
+    """The text truncated and then padded, as by `fit`."""
+    width: int
+    alignment: Alignment = "left"
+    tail: str = ""
+
+
+ColumnEdit = Union[Expand, Slice, Truncate, Pad, Fit]
+_COLUMN_EDITS = (Expand, Slice, Truncate, Pad, Fit)
+
+
+def _column_step_of(edit: ColumnEdit) -> _Step:
+    if isinstance(edit, Expand):
+        return _expand_step(*edit)
+    if isinstance(edit, Slice):
+        return _slice_step(*edit)
+    if isinstance(edit, Truncate):
+        return _truncate_step(*edit)
+    if isinstance(edit, Pad):
+        return _pad_step(*edit)
+    if isinstance(edit, Fit):
+        return _fit_step(*edit)
+    raise TypeError("edits must hold edits by columns, not {}".format(type(edit).__name__))
+
+
+def edit_columns(text: str, edits: Union[ColumnEdit, Iterable[ColumnEdit]]) -> str:
+    """The text after one edit by columns, or after each of a list, tuple or iterator in turn. It is on one line and safe, and
+    nothing is open at its end, also if there is no edit but expansions of TABs.
+
+    >>> edit_columns("\\x1b[31m日本語\\x1b[39m", [Truncate(4, "…"), Pad(6, "right")])
+    '   \\x1b[31m日\\x1b[39m…'
+    >>> edit_columns("a\\tbc", [Expand(4), Slice(2)])
+    '  bc'
+    """
+    if isinstance(edits, _COLUMN_EDITS):
+        steps = [_column_step_of(edits)]
+    elif isinstance(edits, (list, tuple, Iterator)):
+        steps = [_column_step_of(edit) for edit in edits]
+    else:
+        raise TypeError("edits must be an edit by columns or a list of them, not {}".format(type(edits).__name__))
+    if all(kind == _EXPAND_TABS for kind, _, _, _ in steps):
+        # (this makes it safe and closes it; any other edit has done so)
+        steps.append(_pad_step(0, "left"))
+    return _edited(text, *steps)  # type: ignore[no-any-return]
 
 
 def iter_split(text: str, pattern: str) -> Iterator[str]:
