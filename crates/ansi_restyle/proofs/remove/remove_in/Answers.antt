@@ -113,7 +113,7 @@ returns-clause-len g c = length-removed c.args.text.now c.args.range.0 c.args.ra
 pub returns-clause-safe : goal.returns-clause-safe
 returns-clause-safe g c =
     let t = c.args.text.now in
-    let first = rw c.new.ensures at c.in-Some.ensures.divided in
-    let good = range_divided t c.args.range c.if-end-start.false first c.in-Some-split_at.ensures.divided
+    let first = rw c.new.ensures at c.in-Some.ensures in
+    let good = range_divided t c.args.range c.if-end-start.false first c.in-Some-divide.ensures
     (sym c.is_char_boundary.ensures.value ∙ c.if-not-is_char_boundary.false) in
     λ links safe apart. subst (λ u. IsTrue (is_safe links u)) (sym (returns-clause-bytes g c)) (safe-removed links t c.args.range c.utf8.text good safe apart)
