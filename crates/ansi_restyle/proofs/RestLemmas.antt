@@ -1,18 +1,15 @@
 -- A text that is divided: in the run at its front, and by a walk.
 use Rattle.std.proofs.Common.{◌≡◌, ◌≢◌, ℕ, ◌-◌, ◌<◌, ◌≤◌, Option, Some, None, IfSome, List, [], ◌∷◌, ◌++◌, length, take, drop, refl, sym, ◌∙◌, ap, arith, IsFalse, length-append}
 use Rattle.std.proofs.lemmas.List.{take-append-drop, length-take-le}
-use Rattle.ansi_items.specs.declared.ansitok.Kind.{Kind}
 use Rattle.ansi_items.specs.Pieces.{Piece, Text, after_text, pieces_of}
 use Rattle.ansi_items.specs.Plain.{plain, has_escape}
 use Rattle.ansi_items.proofs.PlainLemmas.{all_plain_bytes}
 use Rattle.ansi_items.proofs.JoinLemmas.{pieces_of-run, plain-front}
 use Rattle.ansi_style.specs.declared.state.rendition.Rendition.{Rendition}
 use Rattle.ansi_style.specs.Reading.{after_marks, style_within}
-use Rattle.ansi_style.specs.Rendition.{plain_style}
-use Rattle.ansi_style.specs.Sgr.{apply}
 use Rattle.ansi_search.specs.Offsets.{bytes_before, offset_of}
 use Rattle.ansi_search.specs.Positions.{no_character_goes_on}
-use Rattle.ansi_search.proofs.OffsetLemmas.{bytes_before-last, IsOverText, IsOverMark, IsOffsetWalk, offset_walk-begin, offset_walk-text, offset_walk-mark}
+use Rattle.ansi_search.proofs.OffsetLemmas.{bytes_before-last}
 use Rattle.ansi_search.proofs.PositionLemmas.{no_character_goes_on-append}
 use Rattle.ansi_split.proofs.AfterLemmas.{is_cut_after}
 use Rattle.ansi_split.proofs.RestLemmas.{style-run}
@@ -51,17 +48,3 @@ style_in_run s t run n within none inside =
 pub if_some : {A : Type 0} {X : Type 0} (o : Option A) → X → IfSome o (λ _. X)
 if_some (Some a) x = x
 if_some None x = tt
-
--- How far a walk to the plain byte n has come that reads no style: as far as one that reads some.
-pub record IsWalk (t : List ℕ) (n passed left : ℕ) (ps : List Piece) : Type 0 where
-  pub style : Rendition
-  pub way : IsOffsetWalk t n plain_style passed left style ps
-
-pub walk-begin : (t : List ℕ) (n : ℕ) → IsWalk t n 0 n (pieces_of t)
-walk-begin t n = record { style = plain_style; way = offset_walk-begin t n plain_style }
-
-pub walk-text : {t : List ℕ} {n passed at left next : ℕ} {w : List ℕ} {old ps : List Piece} → IsWalk t n passed left old → IsOverText t w passed at old ps → length w ≤ left → next ≡ left - length w → IsWalk t n at next ps
-walk-text walk over within next_is = record { style = walk.style; way = offset_walk-text walk.way over within next_is }
-
-pub walk-mark : {t : List ℕ} {n passed at left : ℕ} {kind : Kind} {w : List ℕ} {old ps : List Piece} → IsWalk t n passed left old → IsOverMark kind t w passed at old ps → IsWalk t n at left ps
-walk-mark {w = w} walk over = record { style = apply walk.style w; way = offset_walk-mark walk.way over refl }

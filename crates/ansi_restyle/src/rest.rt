@@ -4,8 +4,7 @@ ghost use Rattle.std.specs.Option.{MatchOption};
 ghost use Rattle.std.specs.Str.{IsCharBoundary};
 ghost use Rattle.ansi_items.specs.Plain.{plain, has_escape};
 ghost use Rattle.ansi_search.specs.Matches.{first_match_from};
-ghost use Rattle.ansi_search.specs.Offsets.{StandsIn};
-ghost use Rattle.ansi_search.specs.Positions.{is_char_boundary, is_good_position, no_character_goes_on};
+ghost use Rattle.ansi_search.specs.Positions.{is_char_boundary, no_character_goes_on};
 ghost use Rattle.ansi_style.specs.Reading.{style_within};
 ghost use Rattle.ansi_style.specs.States.{rendition_of};
 ghost use Rattle.ansi_restyle.specs.Replaced.{place_of};
@@ -65,7 +64,7 @@ impl<'t> Rest<'t> {
         if position < self.run_len {
             return self.divide_run(position);
         }
-        let Some(offset) = offset_at(self.text, position) else {
+        let Some(offset) = search::offset_at(self.text, position) else {
             return None;
         };
         Some(divide_at(self.text, offset))
@@ -130,28 +129,6 @@ fn divide_at(text: &str, offset: usize) -> Divided<'_>
     let (front, text) = text.split_at(offset);
     let rest = Rest::new(text);
     Divided { front, rest }
-}
-
-/// Like `ansi_search::search::walk_to`, without a style.
-fn offset_at(text: &str, position: usize) -> Option<usize>
-    ensures { MatchOption result (IsFalse (is_good_position (plain text.now) position))
-        (StandsIn text.now position) }
-{
-    let mut remaining = position;
-    for item in Scanner::new(text) {
-        let piece = &text[item.start..item.end];
-        if item.kind == Kind::Text {
-            if remaining < piece.len() {
-                let offset = item.start + remaining;
-                if !text.is_char_boundary(offset) {
-                    return None;
-                }
-                return Some(offset);
-            }
-            remaining -= piece.len();
-        }
-    }
-    Some(text.len())
 }
 
 /// How long the run at the front of a text is.

@@ -6,24 +6,26 @@ use Rattle.ansi_search.proofs.OffsetLemmas.{IsOverText, IsOverMark, IsPassed, pa
 use Rattle.ansi_search.proofs.SplitLemmas.{end_of, end-plain, plain-surely}
 use Rattle.ansi_search.specs.Offsets.{IsEnd, IsLastRun, IsSurelyPlain}
 
--- How far a walk has come; if no text is left, m..e is the last run.
+-- How far a walk has come; if no text is left, m..e is the last run. There is one exactly if a plain byte was passed.
 pub record IsRunWalk (t : List ℕ) (passed m e : ℕ) (left : List Piece) : Type 0 where
   pub place : ℕ
   pub way : IsPassed t place passed left
   pub ordered : m ≤ e
   pub within : e ≤ length t
+  pub some : 0 < place → m < e
   pub run : plain_of left ≡ [] → m < e → IsLastRun t m e
 
 pub run_walk-begin : (t : List ℕ) → IsRunWalk t 0 0 0 (pieces_of t)
-run_walk-begin t = record { place = 0; way = passed-begin t; ordered = omega arith; within = omega arith; run = λ bare some. absurd (omega (arith, some)) }
+run_walk-begin t = record { place = 0; way = passed-begin t; ordered = omega arith; within = omega arith; some = λ one. absurd (omega (arith, one)); run = λ bare some. absurd (omega (arith, some)) }
 
-pub run_walk-text : {t : List ℕ} {passed at m e : ℕ} {w : List ℕ} {left ps : List Piece} → IsRunWalk t passed m e left → IsOverText t w passed at left ps → w ≡ slice_range t passed at → IsCharBoundary t at
+pub run_walk-text : {t : List ℕ} {passed at m e : ℕ} {w : List ℕ} {left ps : List Piece} → IsRunWalk t passed m e left → IsOverText t w passed at left ps → passed < at → w ≡ slice_range t passed at → IsCharBoundary t at
     → IsRunWalk t at passed at ps
-run_walk-text {t} {passed} {w = w} {ps = ps} walk over is boundary = record {
+run_walk-text {t} {passed} {w = w} {ps = ps} walk over forward is boundary = record {
   place = walk.place + length w;
   way = passed-text walk.way over;
   ordered = omega (arith, over.count);
   within = over.within;
+  some = λ _. forward;
   run = λ bare some. record {
     end = end_of t passed over.begins walk.place (subst (IsPassed t walk.place passed) (sym over.there) walk.way);
     boundary = boundary;
@@ -39,8 +41,13 @@ run_walk-mark walk over = record {
   way = passed-mark walk.way over;
   ordered = walk.ordered;
   within = walk.within;
+  some = walk.some;
   run = λ bare some. walk.run (grind (arith, plain_of-mark)) some;
 }
+
+-- at the end of a text with plain bytes there is a run
+pub run_walk-some : {t : List ℕ} {passed m e : ℕ} {left : List Piece} → IsRunWalk t passed m e left → plain_of left ≡ [] → 0 < length (plain t) → m < e
+run_walk-some walk bare some = walk.some (omega (arith, ap length bare, walk.way.count, some))
 
 -- the last run of what follows an item
 pub last_run-after : {t rest : List ℕ} {start m e : ℕ} → IsEnd t start → rest ≡ drop start t → IsLastRun rest m e → IsLastRun t (start + m) (start + e)

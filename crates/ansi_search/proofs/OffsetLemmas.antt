@@ -1,6 +1,7 @@
 -- The offsets of the plain bytes of a text: what comes before them and after them, and how far a walk there has come.
 use Rattle.ansi_search.proofs.Common.{◌≡◌, ◌≢◌, ℕ, zero, suc, ◌+◌, ◌-◌, ◌<◌, ◌≤◌, inl, inr, Bool, true, ◌↔◌, List, ◌∷◌, ◌++◌, length, take, drop, take-add, refl, sym, ◌∙◌, ap, subst, arith, IsTrue, if◌then◌else◌, nat_lt, length-append, false, drop-nil, drop-append_seam, cases_lt, lt-ltb, le-ltb, take_all, drop-append-le, drop-drop, drop_all, sameb, same_false, slice_range, IsCharBoundary-from_rest, IsCharBoundary, the_type, Kind, is_plain_byte, Piece, Text, spelling, ArePieces, pieces_of, plain_of, plain, pieces_are, pieces_of-unique, spelled, Item, Scan, GivesItem, pieces_left, is_mark, BeginsWithMark, gives_text, gives_mark, plain_of-mark, Rendition, apply, style_within, style_by_marks, style_by_marks-before, style_by_marks-text, style_by_marks-mark, no_character_goes_on, bytes_before, offset_of, StandsIn, []}
 use Rattle.ansi_items.specs.declared.ansitok.Kind.TheVariants.{Text as TextKind}
+use Rattle.ansi_style.specs.Rendition.{plain_style}
 use Rattle.ansi_search.proofs.SliceLemmas.{length-slice_range, take-append, drop-append, list_all-parts}
 use Rattle.ansi_search.proofs.PositionLemmas.{no_character_goes_on-append, no_character_goes_on-after, no_character_goes_on-past, no_character_goes_on-drop, good_is_boundary, boundary_test}
 
@@ -177,6 +178,20 @@ offset_walk-test {t} {i = i} {b = b} way over last is test = (let here = offset_
 pub offset_walk-boundary : {t : List ℕ} {n passed at left i : ℕ} {start style : Rendition} {w : List ℕ} {old ps : List Piece} → IsOffsetWalk t n start passed left style old → IsOverText t w passed at old ps → left < length w → i ≡ passed + left
     → IsTrue (no_character_goes_on (plain t) n) → IsCharBoundary t i
 offset_walk-boundary {t} {i = i} way over last is good = (let here = offset_walk-good way over last is in good_is_boundary t i here.0 (here.1 ∙ good))
+
+-- How far a walk to the plain byte n has come that reads no style: as far as one that reads some.
+pub record IsWalk (t : List ℕ) (n passed left : ℕ) (ps : List Piece) : Type 0 where
+  pub style : Rendition
+  pub way : IsOffsetWalk t n plain_style passed left style ps
+
+pub walk-begin : (t : List ℕ) (n : ℕ) → IsWalk t n 0 n (pieces_of t)
+walk-begin t n = record { style = plain_style; way = offset_walk-begin t n plain_style }
+
+pub walk-text : {t : List ℕ} {n passed at left next : ℕ} {w : List ℕ} {old ps : List Piece} → IsWalk t n passed left old → IsOverText t w passed at old ps → length w ≤ left → next ≡ left - length w → IsWalk t n at next ps
+walk-text walk over within next_is = record { style = walk.style; way = offset_walk-text walk.way over within next_is }
+
+pub walk-mark : {t : List ℕ} {n passed at left : ℕ} {kind : Kind} {w : List ℕ} {old ps : List Piece} → IsWalk t n passed left old → IsOverMark kind t w passed at old ps → IsWalk t n at left ps
+walk-mark {w = w} walk over = record { style = apply walk.style w; way = offset_walk-mark walk.way over refl }
 
 -- How far a walk has come: it has passed these numbers of plain bytes and of bytes of t, and each later plain byte has its offset by the pieces that are left.
 pub record IsPassed (t : List ℕ) (place passed : ℕ) (left : List Piece) : Type 0 where

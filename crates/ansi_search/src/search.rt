@@ -13,7 +13,7 @@ mod two_way;
 
 pub use ends::{end_before_white_space, ends_with, last_run, suffix_offset};
 pub use matches::{find, find_from, first_in_run};
-pub use offsets::walk_to;
+pub use offsets::{offset_at, walk_to};
 use prefix::run_front;
 pub use prefix::starts_with;
 

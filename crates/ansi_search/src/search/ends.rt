@@ -86,17 +86,19 @@ fn solid_end(text: &str) -> usize
 /// A text of at most this many bytes is read by one walk.
 const SHORT: usize = 128;
 
-/// Where the last run of text begins and ends. Only sequences are after it. Of a long run it may be
-/// only an end that has at least `wanted` bytes.
+/// Where the last run of text begins and ends. Only sequences are after it. If the plain text is
+/// empty, there is no run, and both offsets are the same. Of a long run it may be only an end that
+/// has at least `wanted` bytes.
 ///
 /// Reads the text from its end. Doesn't allocate.
 pub fn last_run(text: &str, wanted: usize) -> (usize, usize)
     ensures ordered { result.0 ≤ result.1 }
     ensures within { result.1 ≤ length text.now }
     ensures run { result.0 < result.1 → IsLastRun text.now result.0 result.1 }
+    ensures some { 0 < length (plain text.now) → result.0 < result.1 }
 {
     if SHORT < text.len() {
-        let last = before_going_on(text.as_bytes(), text.len().saturating_sub(wanted));
+        let last = before_going_on(text.as_bytes(), text.len().saturating_sub(wanted.max(1)));
         if is_surely_plain(text, last) {
             return (last, text.len());
         }
@@ -117,6 +119,7 @@ fn last_item(text: &str) -> (usize, usize)
     ensures ordered { result.0 ≤ result.1 }
     ensures within { result.1 ≤ length text.now }
     ensures run { result.0 < result.1 → IsLastRun text.now result.0 result.1 }
+    ensures some { 0 < length (plain text.now) → result.0 < result.1 }
 {
     let mut run = (0, 0);
     for item in Scanner::new(text) {

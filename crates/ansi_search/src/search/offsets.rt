@@ -40,10 +40,23 @@ pub fn walk_to(style: &mut Style, text: &str, position: usize) -> Option<usize>
 }
 
 /// The same, without a style.
-pub(super) fn offset_at(text: &str, position: usize) -> Option<usize>
+pub fn offset_at(text: &str, position: usize) -> Option<usize>
     ensures { MatchOption result (IsFalse (is_good_position (plain text.now) position))
         (StandsIn text.now position) }
 {
-    let mut style = styles::plain_style();
-    walk_to(&mut style, text, position)
+    let mut remaining = position;
+    for item in Scanner::new(text) {
+        let piece = &text[item.start..item.end];
+        if item.kind == Kind::Text {
+            if remaining < piece.len() {
+                let offset = item.start + remaining;
+                if !text.is_char_boundary(offset) {
+                    return None;
+                }
+                return Some(offset);
+            }
+            remaining -= piece.len();
+        }
+    }
+    Some(text.len())
 }

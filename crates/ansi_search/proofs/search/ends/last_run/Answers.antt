@@ -1,4 +1,4 @@
-use Rattle.ansi_search.proofs.Common.{arith, rules}
+use Rattle.ansi_search.proofs.Common.{length, plain, ap, arith, drop_all, rules}
 use Rattle.std.proofs.lemmas.Grind.{common_steps}
 use Rattle.ansi_search.proofs.SplitLemmas.{end-item}
 use Rattle.ansi_search.proofs.LastRunLemmas.{last_run-after, run-surely}
@@ -6,7 +6,7 @@ use Rattle.ansi_search.proofs.search.ends.last_run.Goals as goal
 
 -- nothing is after the end
 pub loop-start-init : goal.loop-start-init
-loop-start-init c = record { boundary = search rules; begins = λ _. grind (arith, common_steps) }
+loop-start-init c = record { boundary = search rules; begins = λ _. grind (arith, common_steps); bare = ap (λ u. length (plain u)) (drop_all (length c.args.text.now) c.args.text.now (omega arith)) }
 
 -- the end is surely plain
 pub returns-then-is_surely_plain-clause-run : goal.returns-then-is_surely_plain-clause-run

@@ -1,7 +1,6 @@
-use Rattle.std.proofs.Common.{◌≡◌}
-use Rattle.ansi_items.specs.Scans.{pieces_left}
-use Rattle.ansi_restyle.proofs.RestLemmas.{IsWalk}
-use Rattle.ansi_restyle.proofs.rest.offset_at.Given as goal
+use Rattle.ansi_search.proofs.Common.{◌≡◌, pieces_left}
+use Rattle.ansi_search.proofs.OffsetLemmas.{IsWalk}
+use Rattle.ansi_search.proofs.search.offsets.offset_at.Given as goal
 
 -- what has been passed, and then what is before the position in what is left, is what is before it in the whole text
 abbrev pub invariant-loop-item : goal.invariant-loop-item

@@ -1,10 +1,7 @@
-use Rattle.std.proofs.Common.{◌+◌, refl, sym, ◌∙◌, ap}
-use Rattle.ansi_items.proofs.StepLemmas.{kind_is_text}
-use Rattle.ansi_items.proofs.Utf8Lemmas.{IsUtf8-plain}
+use Rattle.ansi_search.proofs.Common.{◌+◌, refl, sym, ◌∙◌, ap, kind_is_text, IsUtf8-plain}
 use Rattle.ansi_search.proofs.PositionLemmas.{is_good_position-utf8}
-use Rattle.ansi_search.proofs.OffsetLemmas.{over_text, over_mark, kind_differs, offset_walk-last, offset_walk-test}
-use Rattle.ansi_restyle.proofs.RestLemmas.{walk-begin, walk-text, walk-mark}
-use Rattle.ansi_restyle.proofs.rest.offset_at.Goals as goal
+use Rattle.ansi_search.proofs.OffsetLemmas.{over_text, over_mark, kind_differs, offset_walk-last, offset_walk-test, walk-begin, walk-text, walk-mark}
+use Rattle.ansi_search.proofs.search.offsets.offset_at.Goals as goal
 
 pub loop-item-init : goal.loop-item-init
 loop-item-init c =
