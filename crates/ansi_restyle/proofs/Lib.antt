@@ -24,5 +24,4 @@ pub mod SafeEditLemmas
 pub mod AddressLemmas
 pub mod LinkWalkLemmas
 pub mod LinkRangeLemmas
-pub mod UnionLemmas
 pub mod LinkTurnLemmas

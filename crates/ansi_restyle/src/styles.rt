@@ -2,12 +2,12 @@
 ghost use Rattle.std.specs.Prelude.{◌≡◌, ◌↔◌, IfOk, IfSome, IsFalse, IsNone, IsOk};
 ghost use Rattle.ansi_style.specs.States.{rendition_of};
 ghost use Rattle.ansi_restyle.specs.Restyled.{is_change};
-ghost use Rattle.ansi_restyle.specs.Styles.{selected, union};
+ghost use Rattle.ansi_restyle.specs.Styles.{selected};
 
 use crate::restyle;
-use ansi_safe::links::{Pen, pen_after_from};
 use ansi_style::state::Style;
 use ansi_style::styles;
+pub use ansi_style::styles::{difference, union};
 use std::alloc::{AllocError, Allocator};
 
 /// The style that SGR codes such as `"1;31"` select (ECMA-48, section 8.3.117), or `None` if they
@@ -29,27 +29,4 @@ pub fn style_of<A: Allocator>(alloc: A, codes: &str) -> Result<Option<Style>, Al
     let mut style = styles::plain_style();
     styles::apply(&mut style, sequence.as_str());
     Ok(Some(style))
-}
-
-/// What is set in either of two styles. A color or a font of `over` is taken before that of `under`,
-/// and `reset` and `unknown`, which change nothing that is shown, are those of `under`. `Err` means
-/// out of memory. (Own.)
-///
-/// ```
-/// let bold_red = style_of(rt.alloc(), "1;31")?.ok_or("no codes")?;
-/// let blue = style_of(rt.alloc(), "34")?.ok_or("no codes")?;
-/// let both = union(rt.alloc(), &bold_red, &blue)?;
-/// assert!(rt; both.is_bold() && both.foreground() == Some(Color::Blue));
-/// ```
-pub fn union<A: Allocator>(alloc: A, under: &Style, over: &Style) -> Result<Style, AllocError>
-    ensures style { IfOk result (λ s.
-        rendition_of s ≡ union (rendition_of under.now) (rendition_of over.now)) }
-{
-    let mut start = String::new(alloc);
-    styles::write_start(over, &mut start)?;
-    let under = Pen {
-        style: *under,
-        link: "",
-    };
-    Ok(pen_after_from(under, start.as_str()).style)
 }

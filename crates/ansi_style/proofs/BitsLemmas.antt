@@ -1,5 +1,6 @@
 -- The bits of a set of attributes after some are set or cleared, and whether it has one of some attributes.
-use Rattle.ansi_style.proofs.Common.{◌≡◌, ◌∙◌, ℕ, zero, suc, ◌-◌, ◌^◌, ◌<◌, Bool, true, false, not, ◌&&◌, ◌||◌, ◌==◌, inl, inr, refl, ap, arith, min, bit_and, bit_or, w32, nat_lt, Decides, bit_at, not-not, zero-mul, one-mul, eq-eqb, ne_eqb, ltb-true, cases_lt, same_from_decides, Decides-eqb, Decides-like, Decides-below_and, pow_pos, and_pow, bit_at_or, bit_at_and, bit_at-lt, bit_at_not, bit_at_above, bit_at-zero, same_from_bits, has, has_one}
+use Rattle.ansi_style.proofs.Common.{◌≡◌, ◌∙◌, ℕ, zero, suc, ◌-◌, ◌^◌, ◌<◌, Bool, true, false, not, ◌&&◌, ◌||◌, ◌==◌, if◌then◌else◌, inl, inr, refl, ap, arith, min, bit_and, bit_or, w32, nat_lt, Decides, bit_at, not-not, zero-mul, one-mul, eq-eqb, ne_eqb, ltb-true, cases_lt, same_from_decides, Decides-eqb, Decides-like, Decides-below_and, pow_pos, and_pow, bit_at_or, bit_at_and, bit_at-lt, bit_at_not, bit_at_above, bit_at-zero, same_from_bits, has, has_one}
+use Rattle.std.proofs.lemmas.Nat.{and_le_r}
 
 has-bit : (n k : ℕ) → has n k ≡ (bit_at n k == 1)
 has-bit n k = grind (arith, and_pow, bit_at-lt, eq-eqb, ne_eqb, one-mul, pow_pos, zero-mul)
@@ -19,6 +20,34 @@ pub has-without : (n m k : ℕ) → m < 2 ^ 32 → k < 32 → has (bit_and n (2 
 has-without n m k fits within =
     rw (has-bit (bit_and n (2 ^ 32 - 1 - m)) k, has-bit m k, has-bit n k, bit_at_and n (2 ^ 32 - 1 - m) k, bit_at_not w32 m k fits within)
     (bit_at-cases (λ a b. (min a (1 - b) == 1) ≡ (not (b == 1) && (a == 1))) refl refl refl refl n m k)
+
+has-bit_and : (n m k : ℕ) → has (bit_and n m) k ≡ (has n k && has m k)
+has-bit_and n m k = grind (arith, bit_at_and, bit_at-cases, has-bit)
+
+-- of the others, only those that are in a third set change something
+
+only_there-or : (there other own : Bool) → ((other && there) || own) ≡ (if there then other || own else own)
+only_there-or false false own = refl
+only_there-or false true own = refl
+only_there-or true false own = refl
+only_there-or true true own = refl
+
+only_there-without : (there other own : Bool) → (not (other && there) && own) ≡ (if there then own && not other else own)
+only_there-without false false own = refl
+only_there-without false true own = refl
+only_there-without true false false = refl
+only_there-without true false true = refl
+only_there-without true true false = refl
+only_there-without true true true = refl
+
+pub has-united : (n m there k : ℕ) → has (bit_or n (bit_and m there)) k ≡ (if has there k then has m k || has n k else has n k)
+has-united n m there k =
+    has-bit_or n (bit_and m there) k ∙ ap (λ b. b || has n k) (has-bit_and m there k) ∙ only_there-or (has there k) (has m k) (has n k)
+
+pub has-without_those : (n m there k : ℕ) → there < 2 ^ 32 → k < 32 → has (bit_and n (2 ^ 32 - 1 - bit_and m there)) k ≡ (if has there k then has n k && not (has m k) else has n k)
+has-without_those n m there k fits within =
+    has-without n (bit_and m there) k (omega (arith, fits, and_le_r m there)) within
+    ∙ ap (λ b. not b && has n k) (has-bit_and m there k) ∙ only_there-without (has there k) (has m k) (has n k)
 
 -- Whether a set has one of some attributes, place by place.
 

@@ -8,4 +8,5 @@ pub mod Writing
 pub mod Colors
 pub mod Orders
 pub mod States
+pub mod Sets
 pub mod Numbers

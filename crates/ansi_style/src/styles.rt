@@ -1,18 +1,20 @@
 //! What the crates above do with a style. These are free functions, so that `Style` has only the
 //! public methods that callers of `ansi_str` need.
 ghost use Rattle.std.specs.Prelude.{◌≡◌, ◌||◌, ◌+◌, ◌++◌, [], length, IsTrue, IfOk, OnOk};
-ghost use Rattle.std.specs.Prelude.{IsOk, OnErr, ⊤, take, string_bytes, string_capacity};
+ghost use Rattle.std.specs.Prelude.{IsOk, OnErr, ⊤, nat_eq, take, string_bytes, string_capacity};
 ghost use Rattle.std.specs.Str.{IsCharBoundary};
 ghost use Rattle.ansi_items.specs.Sequences.{is_sgr};
 ghost use Rattle.ansi_style.specs.Rendition.{plain_style, has_known, has_any};
 ghost use Rattle.ansi_style.specs.Sgr.{apply, apply_parameters};
 ghost use Rattle.ansi_style.specs.Written.{start, close, close_if_any};
 ghost use Rattle.ansi_style.specs.States.{rendition_of};
+ghost use Rattle.ansi_style.specs.Sets.{union, difference, unless_same, is_same_color};
 
 use crate::state::attributes::Attributes;
 use crate::state::fields::{Fields, lone_code, parameters};
 use crate::state::sink::Sink;
 use crate::state::{Style, written};
+use ansi_items::ansitok::AnsiColor;
 use bitflags::Flags;
 use std::alloc::{AllocError, Allocator};
 use std::fmt;
@@ -54,6 +56,70 @@ fn apply_fields(style: &mut Style, parameters: &[u8])
     while let Some(field) = fields.next_field() {
         style.step(field, &mut fields);
     }
+}
+
+/// What is set in either of two styles. A color or a font of `over` is taken before that of `under`,
+/// and `reset` and `unknown`, which change nothing that is shown, are those of `under`. Doesn't
+/// allocate. (Own.)
+///
+/// ```
+/// let bold_red = style_of(rt.alloc(), "1;31")?.ok_or("no codes")?;
+/// let blue = style_of(rt.alloc(), "34")?.ok_or("no codes")?;
+/// let both = union(&bold_red, &blue);
+/// assert!(rt; both.is_bold() && both.foreground() == Some(Color::Blue));
+/// ```
+#[tactic(auto, unfolding(crate::specs::States::rendition_of))]
+pub fn union(under: &Style, over: &Style) -> Style
+    ensures { rendition_of result ≡ union (rendition_of under.now) (rendition_of over.now) }
+{
+    let shown = over.attributes.intersection(Attributes::KNOWN);
+    let attributes = under.attributes.union(shown);
+    Style {
+        attributes,
+        foreground: over.foreground.or(under.foreground),
+        background: over.background.or(under.background),
+        underline_color: over.underline_color.or(under.underline_color),
+        font: over.font.or(under.font),
+    }
+}
+
+/// What is set in `style` and isn't set so in `other`: no attribute, color or font that both have.
+/// `reset` and `unknown`, which change nothing that is shown, are those of `style`. Doesn't
+/// allocate. (Own.)
+///
+/// ```
+/// let bold_red = style_of(rt.alloc(), "1;31")?.ok_or("no codes")?;
+/// let red = style_of(rt.alloc(), "31")?.ok_or("no codes")?;
+/// let left = difference(&bold_red, &red);
+/// assert!(rt; left.is_bold() && left.foreground().is_none());
+/// ```
+#[tactic(auto, unfolding(crate::specs::States::rendition_of))]
+pub fn difference(style: &Style, other: &Style) -> Style
+    ensures { rendition_of result ≡ difference (rendition_of style.now) (rendition_of other.now) }
+{
+    let shown = other.attributes.intersection(Attributes::KNOWN);
+    let attributes = style.attributes.difference(shown);
+    Style {
+        attributes,
+        foreground: color_unless_same(style.foreground, other.foreground),
+        background: color_unless_same(style.background, other.background),
+        underline_color: color_unless_same(style.underline_color, other.underline_color),
+        font: font_unless_same(style.font, other.font),
+    }
+}
+
+/// The color, or `None` if the other is the same.
+fn color_unless_same(color: Option<AnsiColor>, other: Option<AnsiColor>) -> Option<AnsiColor>
+    ensures { result ≡ unless_same is_same_color color other }
+{
+    if color == other { None } else { color }
+}
+
+/// The font, or `None` if the other is the same.
+fn font_unless_same(font: Option<u8>, other: Option<u8>) -> Option<u8>
+    ensures { result ≡ unless_same nat_eq font other }
+{
+    if font == other { None } else { font }
 }
 
 /// Whether the style has something to reset: a known attribute, a color or a font is set, or

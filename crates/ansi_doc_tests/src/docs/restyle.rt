@@ -6,7 +6,7 @@ use ansi_restyle::remove::remove_in;
 use ansi_restyle::replace::{insert_in, replace_in};
 use ansi_restyle::replace_all::replace_all_in;
 use ansi_restyle::restyle::{mark_in, restyle_in};
-use ansi_restyle::styles::{style_of, union};
+use ansi_restyle::styles::{difference, style_of, union};
 use ansi_str::Color;
 use std::test::Fail;
 
@@ -197,7 +197,16 @@ fn style_of_example(rt: HostRuntime) {
 fn union_example(rt: HostRuntime) -> Result<(), Fail> {
     let bold_red = style_of(rt.alloc(), "1;31")?.ok_or("no codes")?;
     let blue = style_of(rt.alloc(), "34")?.ok_or("no codes")?;
-    let both = union(rt.alloc(), &bold_red, &blue)?;
+    let both = union(&bold_red, &blue);
     assert!(rt; both.is_bold() && both.foreground() == Some(Color::Blue));
+    Ok(())
+}
+
+#[test]
+fn difference_example(rt: HostRuntime) -> Result<(), Fail> {
+    let bold_red = style_of(rt.alloc(), "1;31")?.ok_or("no codes")?;
+    let red = style_of(rt.alloc(), "31")?.ok_or("no codes")?;
+    let left = difference(&bold_red, &red);
+    assert!(rt; left.is_bold() && left.foreground().is_none());
     Ok(())
 }
