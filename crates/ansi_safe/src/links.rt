@@ -75,7 +75,15 @@ pub fn plain_pen() -> Pen<'static>
     }
 }
 
-/// The pen after a text. Doesn't allocate.
+/// The pen after a text: the style and the link that it leaves open. `pen.style.start()` and
+/// `pen.link` open them again before another text. The link is a borrow of the text. Doesn't
+/// allocate. (Own.)
+///
+/// ```
+/// let pen = pen_after("\x1b[31mred \x1b[1mand \x1b]8;;https://a.org\x07bold");
+/// assert!(rt; pen.style.is_bold() && pen.style.foreground() == Some(Color::Red));
+/// assert!(rt; pen.link == "\x1b]8;;https://a.org\x07");
+/// ```
 pub fn pen_after(text: &str) -> Pen<'_>
     ensures style { rendition_of result.style ≡ style_after text.now }
     ensures link { result.link.now ≡ link_of (marks text.now) }

@@ -1,8 +1,10 @@
 //! The examples of the docs of `ansi_safe`, in the same words.
 use ansi_safe::cells::{cell_and_ending, cell_char, cell_of, paragraph_of};
+use ansi_safe::links::pen_after;
 use ansi_safe::safe::{is_safe, pen_if_safe, sanitize};
 use ansi_safe::utf8::from_utf8;
 use ansi_safe::{AnsiSafe, Links, Policy, Rest};
+use ansi_str::Color;
 use std::test::Fail;
 
 #[test]
@@ -53,6 +55,13 @@ fn policy_example(rt: HostRuntime) -> Result<(), Fail> {
     };
     assert!(rt; "\x1b[2Ja".ansi_sanitize(rt.alloc(), policy)?.as_str() == "a");
     Ok(())
+}
+
+#[test]
+fn pen_after_example(rt: HostRuntime) {
+    let pen = pen_after("\x1b[31mred \x1b[1mand \x1b]8;;https://a.org\x07bold");
+    assert!(rt; pen.style.is_bold() && pen.style.foreground() == Some(Color::Red));
+    assert!(rt; pen.link == "\x1b]8;;https://a.org\x07");
 }
 
 #[test]
