@@ -21,6 +21,7 @@ pub mod ReplacedAllLemmas
 pub mod ReplaceLawLemmas
 pub mod WithoutLinksLemmas
 pub mod SafeEditLemmas
+pub mod SafePutLemmas
 pub mod AddressLemmas
 pub mod LinkWalkLemmas
 pub mod LinkRangeLemmas

@@ -135,7 +135,7 @@ front-front link a n (Text w ∷ ps) = elim (cases_lt a (length w)) [
 ]
 front-front link a n (p ∷ ps) = front-front (link_after link (spelling p)) a n ps
 
-link_at-front : (t : List ℕ) (i : ℕ) → link_at t i ≡ link_through [] (pieces_of (front i t))
+pub link_at-front : (t : List ℕ) (i : ℕ) → link_at t i ≡ link_through [] (pieces_of (front i t))
 link_at-front t i = link_of-fold (marks_up_to i (marks t)) ∙ by-front [] (pieces_of t) i ∙ sym (ap (link_through []) (pieces_of-front t i))
 
 link_at-next : (t : List ℕ) (a n : ℕ) → link_through (link_at t a) (pieces_of (front n (rest a t))) ≡ link_at t (a + n)

@@ -102,7 +102,7 @@ links-marks l [] = refl
 links-marks l (Text w ∷ ps) = links-marks l ps
 links-marks l (p ∷ ps) = links-marks (link_after l (spelling p)) ps
 
-link-marks : (l : List ℕ) (ps : List Piece) → link_through l (mark_pieces ps) ≡ link_through l ps
+pub link-marks : (l : List ℕ) (ps : List Piece) → link_through l (mark_pieces ps) ≡ link_through l ps
 link-marks l [] = refl
 link-marks l (Text w ∷ ps) = link-marks l ps
 link-marks l (p ∷ ps) = link-marks (link_after l (spelling p)) ps
@@ -261,7 +261,7 @@ no_sgr w link = by_test (is_sgr w) refl
     by_test true e = absurd (cc (is_link-sgr w e, link))
     by_test false e = e
 
-end_is_sequence : IsSequence (codes "\u{1b}]8;;\u{1b}\\")
+pub end_is_sequence : IsSequence (codes "\u{1b}]8;;\u{1b}\\")
 end_is_sequence = inr (inl (record { opener = byte "]"; body = codes "8;;"; terminator = codes "\u{1b}\\"; spelled = refl; opens = refl; is_body = refl; ends = inl refl }))
 
 end_back : (l m : List ℕ) → l ≡ [] → IsBack l m (link_end m)

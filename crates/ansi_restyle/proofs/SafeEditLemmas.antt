@@ -37,7 +37,7 @@ is_sgr_left links other w none stays = by (is_sgr w) (keeps_links links) (is_lin
     by false true false c none stays = absurd (cc stays)
     by false false false c none stays = absurd (cc stays)
 
-unlinked_good : (links other : Links) (ps : List Piece) → AreGood links ps → AreGood other (unlinked ps)
+pub unlinked_good : (links other : Links) (ps : List Piece) → AreGood links ps → AreGood other (unlinked ps)
 unlinked_good links other [] good = tt
 unlinked_good links other (Text w ∷ ps) good =
     subst (λ b. AreGood other (if not b then Text w ∷ unlinked ps else unlinked ps)) (sym (is_link-text w good.0.0 good.0.1)) (good.0, unlinked_good links other ps good.1)
@@ -59,7 +59,7 @@ module _ (links : Links) where
   no_marks [] = tt
   no_marks (b ∷ v) = tt
 
-  front_marks_good : (n : ℕ) (ps : List Piece) → AreGood links ps → AreGood links (mark_pieces (front_pieces n ps))
+  pub front_marks_good : (n : ℕ) (ps : List Piece) → AreGood links ps → AreGood links (mark_pieces (front_pieces n ps))
   front_marks_good n [] good = tt
   front_marks_good n (Text w ∷ ps) good = elim (cases_lt n (length w)) [
     | inl last ↦ rw (front_pieces-last n w ps last) (no_marks (take n w))

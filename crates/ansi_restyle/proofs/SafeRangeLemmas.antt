@@ -106,10 +106,10 @@ module _ (w : List ℕ) (n : ℕ) (utf8 : IsUtf8 w) (boundary : IsCharBoundary w
       by true false cr lf = refl
       by false b cr lf = refl
 
-  run_front : all_allowed (chars w) ≡ true → parts_line_end w n ≡ false → all_allowed (chars (take n w)) ≡ true
+  pub run_front : all_allowed (chars w) ≡ true → parts_line_end w n ≡ false → all_allowed (chars (take n w)) ≡ true
   run_front all apart = allowed-front (chars (take n w)) (chars (drop n w)) (sym (ap all_allowed both_chars) ∙ all) (run_apart apart)
 
-  run_rest : all_allowed (chars w) ≡ true → all_allowed (chars (drop n w)) ≡ true
+  pub run_rest : all_allowed (chars w) ≡ true → all_allowed (chars (drop n w)) ≡ true
   run_rest all = allowed-rest (chars (take n w)) (chars (drop n w)) (sym (ap all_allowed both_chars) ∙ all)
 
 -- Where a text is parted.
@@ -120,7 +120,7 @@ never_both b = grind (arith, nat_tests)
 parts-front : (x : List ℕ) (n : ℕ) → n ≡ 0 → parts_line_end x n ≡ false
 parts-front x n none = ap (parts_line_end x) none ∙ never_both (slice_index x 0)
 
-parts-drop : (x : List ℕ) (k n : ℕ) → parts_line_end x (k + n) ≡ false → parts_line_end (drop k x) n ≡ false
+pub parts-drop : (x : List ℕ) (k n : ℕ) → parts_line_end x (k + n) ≡ false → parts_line_end (drop k x) n ≡ false
 parts-drop x k n apart = elim (cases_lt 0 n) [
   | inl some ↦ (
       let before : k + (n - 1) ≡ k + n - 1 = omega arith in
@@ -128,11 +128,11 @@ parts-drop x k n apart = elim (cases_lt 0 n) [
   | inr none ↦ parts-front (drop k x) n (omega (arith, none))
 ]
 
-parts-within : (w y : List ℕ) (n : ℕ) → n < length w → parts_line_end w n ≡ parts_line_end (w ++ y) n
+pub parts-within : (w y : List ℕ) (n : ℕ) → n < length w → parts_line_end w n ≡ parts_line_end (w ++ y) n
 parts-within w y n within =
     sym (ap₂ (λ i j. (i == 13) && (j == 10)) (get_or_append_left w y 0 (n - 1) (omega (arith, within))) (get_or_append_left w y 0 n within))
 
-parts-after : (w y : List ℕ) (n : ℕ) → length w ≤ n → parts_line_end (w ++ y) n ≡ false → parts_line_end y (n - length w) ≡ false
+pub parts-after : (w y : List ℕ) (n : ℕ) → length w ≤ n → parts_line_end (w ++ y) n ≡ false → parts_line_end y (n - length w) ≡ false
 parts-after w y n past apart = elim (cases_lt (length w) n) [
   | inl more ↦ (
       let before : n - 1 - length w ≡ n - length w - 1 = omega arith in
@@ -211,7 +211,7 @@ module _ (links : Links) where
     good = AreGood-append links first.pieces second.pieces first.good second.good;
   }
 
-  keep_parts : (x : List ℕ) (r : ℕ × ℕ) (rs : List (ℕ × ℕ)) → keep_line_ends x (r ∷ rs) ≡ true → (parts_line_end x r.0 ≡ false) × (parts_line_end x r.1 ≡ false) × (keep_line_ends x rs ≡ true)
+  pub keep_parts : (x : List ℕ) (r : ℕ × ℕ) (rs : List (ℕ × ℕ)) → keep_line_ends x (r ∷ rs) ≡ true → (parts_line_end x r.0 ≡ false) × (parts_line_end x r.1 ≡ false) × (keep_line_ends x rs ≡ true)
   keep_parts x r rs kept =
       let both = and_parts (not (parts_line_end x r.0) && not (parts_line_end x r.1)) (keep_line_ends x rs) kept in
       let ends = and_parts (not (parts_line_end x r.0)) (not (parts_line_end x r.1)) both.0 in

@@ -226,6 +226,9 @@ pub trait AnsiRestyle: AnsiStr {
     /// `ansi_restyle` would refuse the range: if it ends before it begins, or a position of it is
     /// past the end of the plain text or inside a character.
     ///
+    /// If both texts are safe (`ansi_is_safe`), so is the result, unless the range begins between a
+    /// carriage return and a line feed.
+    ///
     /// It is a borrow if the range ends where it begins and the new text is empty. A borrow and a
     /// `None` don't allocate. Otherwise it is owned, and longer than both texts by at most 258 bytes
     /// and the sequence that opened the link there. `Err` means out of memory. Takes time in
@@ -254,6 +257,10 @@ pub trait AnsiRestyle: AnsiStr {
         ensures len { IfOk result (λ o. IfSome o (λ c.
             length (cow_str_bytes c) ≤ length (Self.text self.now) + length with.now
             + length (link_at (Self.text self.now) (range.0 - 1)) + 258)) }
+        ensures safe { (links : Links) →
+            IsTrue (is_safe links (Self.text self.now) && is_safe links with.now) →
+            IsFalse (parts_line_end (plain (Self.text self.now)) range.0) → IfOk result (λ o.
+            IfSome o (λ c. IsTrue (is_safe links (cow_str_bytes c)))) }
         ensures takes_no_memory { ((range.0 ≡ range.1) × (with.now ≡ []))
             ⊎ IsFalse (are_in_turn (plain (Self.text self.now)) 0 (range ∷ [])) → IsOk result }
     {
@@ -264,8 +271,13 @@ pub trait AnsiRestyle: AnsiStr {
     /// range there.
     ///
     /// The position counts bytes of the plain text. It is `None` exactly if the position is past the
-    /// end of the plain text or inside a character. It is a borrow if the new text is empty. A
-    /// borrow and a `None` don't allocate. `Err` means out of memory. (Own.)
+    /// end of the plain text or inside a character.
+    ///
+    /// If both texts are safe (`ansi_is_safe`), so is the result, unless the position is between a
+    /// carriage return and a line feed.
+    ///
+    /// It is a borrow if the new text is empty. A borrow and a `None` don't allocate. `Err` means out
+    /// of memory. (Own.)
     ///
     /// ```
     /// let longer = "\x1b[32mgreen\x1b[39m.".ansi_insert(rt.alloc(), 5, "ish");
@@ -290,6 +302,10 @@ pub trait AnsiRestyle: AnsiStr {
         ensures len { IfOk result (λ o. IfSome o (λ c.
             length (cow_str_bytes c) ≤ length (Self.text self.now) + length with.now
             + length (link_at (Self.text self.now) (position - 1)) + 258)) }
+        ensures safe { (links : Links) →
+            IsTrue (is_safe links (Self.text self.now) && is_safe links with.now) →
+            IsFalse (parts_line_end (plain (Self.text self.now)) position) → IfOk result (λ o.
+            IfSome o (λ c. IsTrue (is_safe links (cow_str_bytes c)))) }
         ensures takes_no_memory { (with.now ≡ [])
             ⊎ IsFalse (is_char_boundary (plain (Self.text self.now)) position) → IsOk result }
     {

@@ -4,11 +4,13 @@ ghost use Rattle.std.specs.Prelude.{IsFalse, IsNone, IsOk, IsTrue, OnOk, string_
 ghost use Rattle.std.specs.Cow.{cow_str_bytes, IsBorrowedStr};
 ghost use Rattle.std.specs.Str.{IsCharBoundary};
 ghost use Rattle.ansi_items.specs.Plain.{plain, is_whole};
+ghost use Rattle.ansi_safe.specs.declared.policy.Links.{Links};
 ghost use Rattle.ansi_safe.specs.Links.{link_at};
+ghost use Rattle.ansi_safe.specs.Safe.{is_safe};
 ghost use Rattle.ansi_search.specs.Positions.{is_char_boundary, no_character_goes_on};
 ghost use Rattle.ansi_style.specs.States.{rendition_of};
 ghost use Rattle.ansi_style.specs.Styled.{style_at};
-ghost use Rattle.ansi_restyle.specs.Ranges.{are_in_turn};
+ghost use Rattle.ansi_restyle.specs.Ranges.{are_in_turn, parts_line_end};
 ghost use Rattle.ansi_restyle.specs.Replaced.{place_of, link_back, put, replaced, IsReplaced};
 ghost use Rattle.ansi_restyle.specs.ReplacedAll.{without_front};
 
@@ -45,6 +47,9 @@ pub fn replace_in<'t, A: Allocator>(
     ensures len { IfOk result (λ o. IfSome o (λ c.
         length (cow_str_bytes c) ≤ length text.now + length with.now
         + length (link_at text.now (range.0 - 1)) + 258)) }
+    ensures safe { (links : Links) → IsTrue (is_safe links text.now && is_safe links with.now) →
+        IsFalse (parts_line_end (plain text.now) range.0) → IfOk result (λ o. IfSome o (λ c.
+        IsTrue (is_safe links (cow_str_bytes c)))) }
     ensures takes_no_memory { ((range.0 ≡ range.1) × (with.now ≡ []))
         ⊎ IsFalse (are_in_turn (plain text.now) 0 (range ∷ [])) → IsOk result }
 {
@@ -91,6 +96,9 @@ pub fn insert_in<'t, A: Allocator>(
     ensures len { IfOk result (λ o. IfSome o (λ c.
         length (cow_str_bytes c) ≤ length text.now + length with.now
         + length (link_at text.now (position - 1)) + 258)) }
+    ensures safe { (links : Links) → IsTrue (is_safe links text.now && is_safe links with.now) →
+        IsFalse (parts_line_end (plain text.now) position) → IfOk result (λ o. IfSome o (λ c.
+        IsTrue (is_safe links (cow_str_bytes c)))) }
     ensures takes_no_memory { (with.now ≡ [])
         ⊎ IsFalse (is_char_boundary (plain text.now) position) → IsOk result }
 {

@@ -1,16 +1,18 @@
-use Rattle.std.proofs.Common.{◌≡◌, ◌++◌, ◌-◌, List, ℕ, length, take, drop, ap, sym, ◌∙◌, subst, string_bytes}
+use Rattle.std.proofs.Common.{◌≡◌, ◌++◌, ◌-◌, List, ℕ, length, take, drop, ap, sym, ◌∙◌, subst, string_bytes, IsTrue}
 use Rattle.std.proofs.lemmas.Bool.{and_parts, eqb-true}
 use Rattle.std.proofs.lemmas.List.{nil_from_length}
 use Rattle.ansi_items.specs.Pieces.{pieces_of}
 use Rattle.ansi_items.specs.Plain.{plain, is_whole}
 use Rattle.ansi_search.proofs.PositionLemmas.{no_character_goes_on-past}
 use Rattle.ansi_slice.specs.Stretches.{sequences_up_to}
+use Rattle.ansi_safe.specs.Safe.{is_safe}
 use Rattle.ansi_style.specs.States.{rendition_of}
 use Rattle.ansi_restyle.specs.Rests.{IsDivided}
 use Rattle.ansi_restyle.specs.Replaced.{place_of, put, IsReplaced}
 use Rattle.ansi_restyle.proofs.MatchLemmas.{some_if_good}
 use Rattle.ansi_restyle.proofs.RemovedLemmas.{length-part}
 use Rattle.ansi_restyle.proofs.ReplacedLemmas.{is_good_range, good_after_place, replaced-written, is_replaced, replaced-nothing, length-replaced}
+use Rattle.ansi_restyle.proofs.SafePutLemmas.{safe-replaced}
 use Rattle.ansi_restyle.proofs.replace.replace_in.Goals as goal
 
 -- nothing in place of nothing
@@ -28,6 +30,9 @@ returns-then-is_empty-clause-headline g c =
     λ whole. (
     let both = and_parts (is_whole t) (is_whole w) whole in
     subst (IsReplaced t c.args.range.0 c.args.range.1 w) (sym (returns-then-is_empty-clause-bytes g c)) (is_replaced t c.args.range.0 c.args.range.1 w good.ordered good.end_within both.0 both.1))
+
+pub returns-then-is_empty-clause-safe : goal.returns-then-is_empty-clause-safe
+returns-then-is_empty-clause-safe g c = λ links safe apart. (and_parts (is_safe links c.args.text.now) (is_safe links c.args.with.now) safe).0
 
 -- the end of the range is good
 
@@ -80,3 +85,9 @@ returns-clause-headline g c =
 
 pub returns-clause-len : goal.returns-clause-len
 returns-clause-len g c = length-replaced c.args.text.now c.args.range.0 c.args.range.1 c.args.with.now (string_bytes c.push_str-2.new.self) (returns-clause-bytes g c)
+
+-- and safe, if the range doesn't begin between a carriage return and a line feed
+pub returns-clause-safe : goal.returns-clause-safe
+returns-clause-safe g c =
+    let turn = sym c.are_in_turn.ensures ∙ c.if-not-are_in_turn.false in
+    λ links safe apart. subst (λ u. IsTrue (is_safe links u)) (sym (returns-clause-bytes g c)) (safe-replaced links c.args.text.now c.args.range c.args.with.now c.utf8.text c.utf8.with turn safe apart)
