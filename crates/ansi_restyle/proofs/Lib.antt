@@ -25,4 +25,5 @@ pub mod SafePutLemmas
 pub mod AddressLemmas
 pub mod LinkWalkLemmas
 pub mod LinkRangeLemmas
+pub mod SafeLinkLemmas
 pub mod LinkTurnLemmas

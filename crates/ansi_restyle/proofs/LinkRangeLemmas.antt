@@ -49,7 +49,7 @@ printable-body (b ∷ a) all =
 clean_parts : (a : List ℕ) → is_clean_address a ≡ true → (nat_lt 0 (length a) ≡ true) × (list_all is_printable_byte a ≡ true)
 clean_parts a clean = and_parts (nat_lt 0 (length a)) (list_all is_printable_byte a) clean
 
-link_to-sequence : (a : List ℕ) → is_clean_address a ≡ true → IsSequence (link_to a)
+pub link_to-sequence : (a : List ℕ) → is_clean_address a ≡ true → IsSequence (link_to a)
 link_to-sequence a clean = inr (inl (record {
   opener = 93;
   body = 56 ∷ 59 ∷ 59 ∷ a;
@@ -60,7 +60,7 @@ link_to-sequence a clean = inr (inl (record {
   ends = inl refl;
 }))
 
-link_to-terminator : (a : List ℕ) → terminator_len (link_to a) ≡ 2
+pub link_to-terminator : (a : List ℕ) → terminator_len (link_to a) ≡ 2
 link_to-terminator a =
     let w = link_to a in
     let u = 27 ∷ 93 ∷ 56 ∷ 59 ∷ 59 ∷ a in
@@ -82,7 +82,7 @@ link_to-address a =
     ap (λ (fields : List ℕ). if nat_lt (prefix_len (λ b. not (b == byte ";")) fields) (length fields) then Some (drop (prefix_len (λ b. not (b == byte ";")) fields + 1) fields) else None) (link_to-fields a)
     ∙ ap (λ c. if c then Some a else None) (lt-ltb 0 (length (59 ∷ a)) (omega arith))
 
-link_to-is_link : (a : List ℕ) → is_link (link_to a) ≡ true
+pub link_to-is_link : (a : List ℕ) → is_link (link_to a) ≡ true
 link_to-is_link a = ap is_some (link_to-address a)
 
 link_to-opens : (a : List ℕ) → is_clean_address a ≡ true → opens_link (link_to a) ≡ true
@@ -349,7 +349,7 @@ parts n m first second third all is size sum = (
   ap₂ drop (sym sum ∙ sym (length-append first second)) (is ∙ sym (append_assoc first second third)) ∙ drop-append_seam (first ++ second) third,
 )
 
-abbrev full : List ℕ → ℕ × ℕ → List ℕ → List ℕ
+abbrev pub full : List ℕ → ℕ × ℕ → List ℕ → List ℕ
 full t r address =
     let n = r.1 - r.0 in
     let here = rest r.0 t in

@@ -14,7 +14,7 @@ use Rattle.ansi_search.proofs.OffsetLemmas.{pieces_of-after}
 use Rattle.ansi_search.proofs.PositionLemmas.{no_character_goes_on-drop}
 use Rattle.ansi_safe.specs.declared.policy.Links.{Links}
 use Rattle.ansi_safe.specs.Links.{is_link, terminator_len}
-use Rattle.ansi_safe.specs.Safe.{is_printable_byte, keeps_links, is_clean_link, may_stay, is_safe}
+use Rattle.ansi_safe.specs.Safe.{is_printable_byte, keeps_links, may_stay, is_safe}
 use Rattle.ansi_safe.proofs.SafeLemmas.{AreGood, good_are_safe}
 use Rattle.ansi_restyle.specs.Links.{without_links}
 use Rattle.ansi_restyle.specs.Ranges.{are_in_turn, parts_line_end}
@@ -74,8 +74,11 @@ module _ (links : Links) where
   pub made-good : (t : List ℕ) → AreGood links (pieces_of t) → IsMade links t
   made-good t good = record { pieces = pieces_of t; bytes = spelled-pieces_of t; good = good }
 
+  pub front_is_good : (t : List ℕ) (n : ℕ) → AreGood links (pieces_of t) → no_character_goes_on (plain t) n ≡ true → parts_line_end (plain t) n ≡ false → AreGood links (pieces_of (front n t))
+  front_is_good t n good here apart = subst (AreGood links) (sym (pieces_of-front t n)) (front_good links n (pieces_of t) good here apart)
+
   pub made-front : (t : List ℕ) (n : ℕ) → AreGood links (pieces_of t) → no_character_goes_on (plain t) n ≡ true → parts_line_end (plain t) n ≡ false → IsMade links (front n t)
-  made-front t n good here apart = made-good (front n t) (subst (AreGood links) (sym (pieces_of-front t n)) (front_good links n (pieces_of t) good here apart))
+  made-front t n good here apart = made-good (front n t) (front_is_good t n good here apart)
 
   pub made-sequences : (t : List ℕ) (n : ℕ) → AreGood links (pieces_of t) → IsMade links (sequences (front n t))
   made-sequences t n good = record {

@@ -1,11 +1,10 @@
 -- A safe text with a safe text put in place of a range is safe, if the range doesn't begin between a carriage return and a line feed.
 use Rattle.std.proofs.Common.{◌≡◌, ℕ, ◌+◌, ◌-◌, ◌<◌, ◌≤◌, ◌==◌, ◌⊎◌, inl, inr, Bool, true, false, ◌&&◌, ◌||◌, List, [], ◌∷◌, ◌++◌, length, take, drop, codes, nat_lt, refl, sym, ◌∙◌, ap, ap₂, subst, arith, append-nil, length-append, if◌then◌else◌}
 use Rattle.std.proofs.lemmas.Bool.{and_parts, cases_lt, lt-ltb, le-ltb}
-use Rattle.std.proofs.lemmas.List.{take-append-le, take_all, drop_all}
-use Rattle.std.specs.List.{list_all}
+use Rattle.std.proofs.lemmas.List.{take-append-le, take_all}
 use Rattle.std.specs.Str.{IsUtf8, bytes_eq}
 use Rattle.ansi_items.specs.Bytes.{is_plain_byte}
-use Rattle.ansi_items.specs.Sequences.{IsSequence, is_sgr}
+use Rattle.ansi_items.specs.Sequences.{is_sgr}
 use Rattle.ansi_items.specs.Pieces.{Piece, Text, Sequence, LoneEscape, ArePieces, spelling, pieces_of}
 use Rattle.ansi_items.specs.Plain.{plain, plain_of, marks, has_escape}
 use Rattle.ansi_items.proofs.PieceLemmas.{pieces_are, pieces_of-unique}
@@ -18,7 +17,7 @@ use Rattle.ansi_style.specs.Styled.{style_at}
 use Rattle.ansi_style.specs.Written.{start, start_codes, close, close_codes}
 use Rattle.ansi_style.proofs.ReadBackLemmas.{code_pieces, spelled-code_pieces, code_pieces_stand, start_codes_are, close_codes_are}
 use Rattle.ansi_style.proofs.StyleLemmas.{IsStyle-style_at}
-use Rattle.ansi_search.specs.Offsets.{bytes_before, offset_of}
+use Rattle.ansi_search.specs.Offsets.{bytes_before}
 use Rattle.ansi_search.specs.Positions.{no_character_goes_on}
 use Rattle.ansi_search.proofs.SliceLemmas.{list_all-parts}
 use Rattle.ansi_search.proofs.OffsetLemmas.{bytes_before-last, bytes_before-text, take-after, drop-nonempty, inside_are, ArePieces-drop}
@@ -30,13 +29,12 @@ use Rattle.ansi_safe.specs.Safe.{keeps_links, is_clean_link, may_stay, is_safe}
 use Rattle.ansi_safe.proofs.LinkLemmas.{link_through, is_link-sgr}
 use Rattle.ansi_safe.proofs.SafeLemmas.{IsGood, AreGood, good_are_safe, spelled-one_text}
 use Rattle.ansi_restyle.specs.Ranges.{are_in_turn, parts_line_end}
-use Rattle.ansi_restyle.specs.Removed.{sequences}
 use Rattle.ansi_restyle.specs.Restyled.{front, rest}
 use Rattle.ansi_restyle.specs.Replaced.{place_of, link_back, put, replaced}
 use Rattle.ansi_restyle.proofs.FrontLemmas.{front_pieces, pieces_of-front}
 use Rattle.ansi_restyle.proofs.RangeLemmas.{are_first}
 use Rattle.ansi_restyle.proofs.RemovedLemmas.{mark_pieces}
-use Rattle.ansi_restyle.proofs.PlaceLemmas.{place_of-front, place_of-later}
+use Rattle.ansi_restyle.proofs.PlaceLemmas.{place_of-later}
 use Rattle.ansi_restyle.proofs.LinkedLemmas.{link-marks, after-pieces, end_is_sequence}
 use Rattle.ansi_restyle.proofs.LinkRangeLemmas.{link_at-front}
 use Rattle.ansi_restyle.proofs.ReplacedLemmas.{is_good_range, good_after_place}
@@ -256,10 +254,10 @@ module _ (links : Links) where
   pub made-up_to_place : (t : List ℕ) (a : ℕ) → AreGood links (pieces_of t) → a ≤ length (plain t) → no_character_goes_on (plain t) a ≡ true → parts_line_end (plain t) a ≡ false → IsMade links (take (place_of a t) t)
   made-up_to_place t a good within here apart = elim (cases_lt 0 a) [
     | inl some ↦ record {
-        pieces = up_to a (pieces_of t);
-        bytes = spelled-up_to a (pieces_of t) some within ∙ ap₂ take (sym (place_of-later t a some)) (spelled-pieces_of t);
-        good = up_to_good a (pieces_of t) good here apart;
-      }
+      pieces = up_to a (pieces_of t);
+      bytes = spelled-up_to a (pieces_of t) some within ∙ ap₂ take (sym (place_of-later t a some)) (spelled-pieces_of t);
+      good = up_to_good a (pieces_of t) good here apart;
+    }
     | inr none ↦ (
         let zero_is : 0 ≡ a = omega (arith, none) in
         subst (λ n. IsMade links (take (place_of n t) t)) zero_is
@@ -290,8 +288,8 @@ module _ (links : Links) where
       let good_w = safe_good links w (pieces_of w) (pieces_are w) utf8_w both.1 in
       let good_after = place_good t a good range.within first.good_start in
       let made = made-append links (made-append links (made-append links
-          (made-up_to_place t a good range.within first.good_start apart)
-          (made-put (style_at t (a - 1)) (link_at t (a - 1)) w (IsStyle-style_at t (a - 1)) (open_good-at t (a - 1) good) good_w))
-          (made-sequences links after n good_after))
-          (made-good links (rest n after) (rest_good links after n good_after (good_after_place t after r turn refl))) in
+      (made-up_to_place t a good range.within first.good_start apart)
+      (made-put (style_at t (a - 1)) (link_at t (a - 1)) w (IsStyle-style_at t (a - 1)) (open_good-at t (a - 1) good) good_w))
+      (made-sequences links after n good_after))
+      (made-good links (rest n after) (rest_good links after n good_after (good_after_place t after r turn refl))) in
       subst (λ u. is_safe links u ≡ true) made.bytes (good_are_safe links made.pieces made.good)

@@ -5,6 +5,7 @@ ghost use Rattle.std.specs.Cow.{cow_str_bytes, IsBorrowedStr};
 ghost use Rattle.ansi_items.specs.Pieces.{pieces_of};
 ghost use Rattle.ansi_items.specs.Plain.{plain, is_text, is_whole};
 ghost use Rattle.ansi_safe.specs.declared.policy.Links.{Links};
+ghost use Rattle.ansi_safe.specs.declared.policy.Links.TheVariants.{Keep};
 ghost use Rattle.ansi_safe.specs.Links.{link_at};
 ghost use Rattle.ansi_safe.specs.Safe.{is_safe};
 ghost use Rattle.ansi_search.specs.Matches.{first_match_from};
@@ -374,6 +375,9 @@ pub trait AnsiRestyle: AnsiStr {
     /// `ansi_restyle` would refuse the range, or if the address is empty or has a byte that isn't
     /// printable ASCII (20 to 7E). So write other characters of an address as `%` and two digits.
     ///
+    /// If the text is safe (`ansi_is_safe`), the result is safe with `Links::Keep`, unless the range
+    /// begins or ends between a carriage return and a line feed.
+    ///
     /// It is a borrow if the range ends where it begins. A borrow and a `None` don't allocate.
     /// Otherwise it is owned, and longer than the text by at most 21 bytes, the address, and the
     /// sequence of the link that is open where the range ends. `Err` means out of memory. Takes time
@@ -401,6 +405,9 @@ pub trait AnsiRestyle: AnsiStr {
         ensures len { IfOk result (λ o. IfSome o (λ c. length (cow_str_bytes c)
             ≤ length (Self.text self.now) + length address.now
             + length (link_at (Self.text self.now) range.1) + 21)) }
+        ensures safe { (links : Links) → IsTrue (is_safe links (Self.text self.now)) →
+            IsTrue (keep_line_ends (plain (Self.text self.now)) (range ∷ [])) →
+            IfOk result (λ o. IfSome o (λ c. IsTrue (is_safe Keep (cow_str_bytes c)))) }
         ensures takes_no_memory { (range.0 ≡ range.1) ⊎ IsFalse (is_clean_address address.now
             && are_in_turn (plain (Self.text self.now)) 0 (range ∷ [])) → IsOk result }
     {

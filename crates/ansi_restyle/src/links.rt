@@ -8,11 +8,12 @@ ghost use Rattle.ansi_items.specs.Plain.{plain, is_whole};
 ghost use Rattle.ansi_items.specs.Sequences.{IsSequence};
 ghost use Rattle.ansi_safe.specs.Links.{address_of, is_link, link_at};
 ghost use Rattle.ansi_safe.specs.declared.policy.Links as LinkPolicy;
+ghost use Rattle.ansi_safe.specs.declared.policy.Links.TheVariants.{Keep};
 ghost use Rattle.ansi_safe.specs.Safe.{is_printable_byte, is_safe};
 ghost use Rattle.ansi_restyle.specs.Links.{has_link, without_links, IsWithoutLinks};
 ghost use Rattle.ansi_restyle.specs.Links.{linked_range, links, links_of_walk};
 ghost use Rattle.ansi_restyle.specs.Links.{is_clean_address, as_link, with_link, IsLinked, IsInThree};
-ghost use Rattle.ansi_restyle.specs.Ranges.{are_in_turn};
+ghost use Rattle.ansi_restyle.specs.Ranges.{are_in_turn, keep_line_ends};
 
 use crate::rest::Rest;
 use ansi_items::ansitok::{Kind, Scanner};
@@ -221,6 +222,9 @@ pub fn link_in<'t, A: Allocator>(
     ensures borrowed { IfOk result (λ o. IfSome o (λ c. IsBorrowedStr c ↔ (range.0 ≡ range.1))) }
     ensures len { IfOk result (λ o. IfSome o (λ c. length (cow_str_bytes c)
         ≤ length text.now + length address.now + length (link_at text.now range.1) + 21)) }
+    ensures safe { (links : LinkPolicy.Links) → IsTrue (is_safe links text.now) →
+        IsTrue (keep_line_ends (plain text.now) (range ∷ [])) → IfOk result (λ o.
+        IfSome o (λ c. IsTrue (is_safe Keep (cow_str_bytes c)))) }
     ensures takes_no_memory { (range.0 ≡ range.1) ⊎ IsFalse
         (is_clean_address address.now && are_in_turn (plain text.now) 0 (range ∷ [])) →
         IsOk result }

@@ -1,9 +1,12 @@
-use Rattle.std.proofs.Common.{◌&&◌, ◌++◌, List, ℕ, [], ◌∷◌, inl, inr, ap, ap₂, sym, ◌∙◌, subst}
+use Rattle.std.proofs.Common.{◌&&◌, ◌++◌, List, ℕ, [], ◌∷◌, inl, inr, ap, ap₂, sym, ◌∙◌, subst, IsTrue}
 use Rattle.ansi_items.specs.Plain.{plain}
 use Rattle.ansi_search.proofs.PositionLemmas.{none_if_bad, some_if_good}
+use Rattle.ansi_safe.specs.declared.policy.Links.TheVariants.{Keep}
+use Rattle.ansi_safe.specs.Safe.{is_safe}
 use Rattle.ansi_restyle.specs.Ranges.{are_in_turn}
 use Rattle.ansi_restyle.specs.Links.{as_link, IsLinked}
 use Rattle.ansi_restyle.proofs.LinkRangeLemmas.{is_linked, is_linked-empty, with_link-empty, with_link-full, written-linked, length-with_link}
+use Rattle.ansi_restyle.proofs.SafeLinkLemmas.{safe-kept, safe-linked}
 use Rattle.ansi_restyle.proofs.links.link_in.Goals as goal
 
 -- an address that isn't clean, or a bad range
@@ -27,6 +30,9 @@ returns-then-start-end-clause-bytes g c = sym (with_link-empty c.args.text.now c
 
 pub returns-then-start-end-clause-headline : goal.returns-then-start-end-clause-headline
 returns-then-start-end-clause-headline g c = λ whole. is_linked-empty c.args.text.now c.args.range c.args.address.now c.if-start-end.true whole
+
+pub returns-then-start-end-clause-safe : goal.returns-then-start-end-clause-safe
+returns-then-start-end-clause-safe g c = λ links safe kept. safe-kept links c.args.text.now safe
 
 -- any other needs memory
 
@@ -89,3 +95,12 @@ returns-clause-headline g c =
 
 pub returns-clause-len : goal.returns-clause-len
 returns-clause-len g c = length-with_link c.args.text.now c.args.range c.args.address.now _ c.if-start-end.false (returns-clause-bytes g c)
+
+-- and safe, if the range neither begins nor ends between a carriage return and a line feed
+pub returns-clause-safe : goal.returns-clause-safe
+returns-clause-safe g c =
+    let t = c.args.text.now in
+    let r = c.args.range in
+    let address = c.args.address.now in
+    λ links safe kept. subst (λ u. IsTrue (is_safe Keep u)) (sym (returns-clause-bytes g c ∙ with_link-full t r address c.if-start-end.false))
+    (safe-linked t r address c.utf8.text c.in-Some.ensures.good (sym c.is_clean_address.ensures ∙ c.if-not-is_clean_address.false) (safe-kept links t safe) kept)
