@@ -8,8 +8,7 @@ use Rattle.ansi_items.specs.Sequences.{is_sgr}
 use Rattle.ansi_items.specs.Pieces.{Piece, Text, Sequence, LoneEscape, ArePieces, spelling, pieces_of}
 use Rattle.ansi_items.specs.Plain.{plain, plain_of, marks, has_escape}
 use Rattle.ansi_items.proofs.PieceLemmas.{pieces_are, pieces_of-unique}
-use Rattle.ansi_items.proofs.PlainLemmas.{one_text}
-use Rattle.ansi_items.proofs.JoinLemmas.{spelled, spelled-pieces_of}
+use Rattle.ansi_items.proofs.PlainLemmas.{one_text, one_text_are}
 use Rattle.ansi_style.specs.declared.state.rendition.Rendition.{Rendition}
 use Rattle.ansi_style.specs.Rendition.{IsStyle}
 use Rattle.ansi_style.specs.Reading.{style_after_from}
@@ -20,18 +19,18 @@ use Rattle.ansi_style.proofs.StyleLemmas.{IsStyle-style_at}
 use Rattle.ansi_search.specs.Offsets.{bytes_before}
 use Rattle.ansi_search.specs.Positions.{no_character_goes_on}
 use Rattle.ansi_search.proofs.SliceLemmas.{list_all-parts}
-use Rattle.ansi_search.proofs.OffsetLemmas.{bytes_before-last, bytes_before-text, take-after, drop-nonempty, inside_are, ArePieces-drop}
+use Rattle.ansi_search.proofs.OffsetLemmas.{bytes_before-last, bytes_before-text, drop-nonempty, inside_are, ArePieces-drop}
 use Rattle.ansi_search.proofs.PositionLemmas.{no_character_goes_on-append, no_character_goes_on-after, good_is_boundary}
 use Rattle.std.proofs.lemmas.Str.{IsUtf8-take, IsUtf8-drop}
 use Rattle.ansi_safe.specs.declared.policy.Links.{Links}
 use Rattle.ansi_safe.specs.Links.{is_link, opens_link, link_after, link_after_all, link_at, link_end}
 use Rattle.ansi_safe.specs.Safe.{keeps_links, is_clean_link, may_stay, is_safe}
 use Rattle.ansi_safe.proofs.LinkLemmas.{link_through, is_link-sgr}
-use Rattle.ansi_safe.proofs.SafeLemmas.{IsGood, AreGood, good_are_safe, spelled-one_text}
+use Rattle.ansi_safe.proofs.SafeLemmas.{IsGood, AreGood, good_are_safe}
 use Rattle.ansi_restyle.specs.Ranges.{are_in_turn, parts_line_end}
 use Rattle.ansi_restyle.specs.Restyled.{front, rest}
 use Rattle.ansi_restyle.specs.Replaced.{place_of, link_back, put, replaced}
-use Rattle.ansi_restyle.proofs.FrontLemmas.{front_pieces, pieces_of-front}
+use Rattle.ansi_restyle.proofs.FrontLemmas.{front_pieces, pieces_of-front, piece_before}
 use Rattle.ansi_restyle.proofs.RangeLemmas.{are_first}
 use Rattle.ansi_restyle.proofs.RemovedLemmas.{mark_pieces}
 use Rattle.ansi_restyle.proofs.PlaceLemmas.{place_of-later}
@@ -39,7 +38,7 @@ use Rattle.ansi_restyle.proofs.LinkedLemmas.{link-marks, after-pieces, end_is_se
 use Rattle.ansi_restyle.proofs.LinkRangeLemmas.{link_at-front}
 use Rattle.ansi_restyle.proofs.ReplacedLemmas.{is_good_range, good_after_place}
 use Rattle.ansi_restyle.proofs.SafeRangeLemmas.{parts-within, parts-after, run_front, run_rest, one_text_good, codes_good, IsMade, made-append, safe_good}
-use Rattle.ansi_restyle.proofs.SafeEditLemmas.{front_marks_good, rest_good, made-good, made-front, made-sequences}
+use Rattle.ansi_restyle.proofs.SafeEditLemmas.{front_marks_good, rest_good, front_is_good, made-good, made-sequences}
 
 -- The pieces up to the place of a position past the front, which ends right after the plain byte before it, and those from there on.
 
@@ -85,19 +84,20 @@ place_in-last a w ps some last = omega (arith, some, bytes_before-last (a - 1) w
 place_in-mark : (k n : ℕ) → k + n + 1 ≡ k + (n + 1)
 place_in-mark k n = omega arith
 
-spelled-up_to : (a : ℕ) (ps : List Piece) → 0 < a → a ≤ length (plain_of ps) → spelled (up_to a ps) ≡ take (place_in a ps) (spelled ps)
-spelled-up_to a [] some within = absurd (omega (arith, some, within))
-spelled-up_to a (Text w ∷ ps) some within = elim (cases_lt (length w) a) [
+up_to_are : (a : ℕ) (t : List ℕ) (ps : List Piece) → 0 < a → a ≤ length (plain_of ps) → ArePieces t ps → ArePieces (take (place_in a ps) t) (up_to a ps)
+up_to_are a t [] some within are = absurd (omega (arith, some, within))
+up_to_are a t (Text w ∷ ps) some within are = elim (cases_lt (length w) a) [
   | inl later ↦
-      ap spelled (up_to-later a w ps later) ∙ ap (λ u. w ++ u) (spelled-up_to (a - length w) ps (omega (arith, later)) (omega (arith, within, length-append w (plain_of ps))))
-      ∙ sym (ap (λ k. take k (w ++ spelled ps)) (place_in-later a w ps later) ∙ take-after w (spelled ps) (place_in (a - length w) ps))
-  | inr last ↦
-      ap spelled (up_to-last a w ps last) ∙ spelled-one_text (take a w)
-      ∙ sym (ap (λ k. take k (w ++ spelled ps)) (place_in-last a w ps some last) ∙ take-append-le a w (spelled ps) last)
+      rw (place_in-later a w ps later, up_to-later a w ps later)
+      (piece_before t (Text w) are.0 (place_in (a - length w) ps) (up_to (a - length w) ps) are.1 are.2
+      (up_to_are (a - length w) are.0 ps (omega (arith, later)) (omega (arith, within, length-append w (plain_of ps))) are.3))
+  | inr last ↦ (
+      let cut : take a t ≡ take a w = ap (take a) are.1 ∙ take-append-le a w are.0 last in
+      rw (place_in-last a w ps some last, up_to-last a w ps last, cut) (one_text_are (take a w) (list_all-parts is_plain_byte a w are.2.1).0))
 ]
-spelled-up_to a (p ∷ ps) some within =
-    ap (λ u. spelling p ++ u) (spelled-up_to a ps some within)
-    ∙ sym (ap (λ k. take k (spelling p ++ spelled ps)) (place_in-mark (length (spelling p)) (bytes_before (a - 1) ps)) ∙ take-after (spelling p) (spelled ps) (place_in a ps))
+up_to_are a t (p ∷ ps) some within are =
+    subst (λ k. ArePieces (take k t) (p ∷ up_to a ps)) (sym (place_in-mark (length (spelling p)) (bytes_before (a - 1) ps)))
+    (piece_before t p are.0 (place_in a ps) (up_to a ps) are.1 are.2 (up_to_are a are.0 ps some within are.3))
 
 from_are : (a : ℕ) (t : List ℕ) (ps : List Piece) → 0 < a → a ≤ length (plain_of ps) → ArePieces t ps → ArePieces (drop (place_in a ps) t) (from a ps)
 from_are a t [] some within are = absurd (omega (arith, some, within))
@@ -120,7 +120,7 @@ from_are a t (p ∷ ps) some within are =
 
 -- The last link that good pieces open is one of them, if links are kept.
 
-abbrev IsOpenGood : Links → List ℕ → Type 0
+abbrev pub IsOpenGood : Links → List ℕ → Type 0
 IsOpenGood links link = (link ≡ []) ⊎ ((keeps_links links ≡ true) × IsGood links (Sequence link))
 
 module _ (links : Links) where
@@ -141,7 +141,7 @@ module _ (links : Links) where
       by_tests true false is = inl refl
       by_tests false c is = before
 
-  open_good-through : (link : List ℕ) (ps : List Piece) → AreGood links ps → IsOpenGood links link → IsOpenGood links (link_through link ps)
+  pub open_good-through : (link : List ℕ) (ps : List Piece) → AreGood links ps → IsOpenGood links link → IsOpenGood links (link_through link ps)
   open_good-through link [] good before = before
   open_good-through link (Text w ∷ ps) good before = open_good-through link ps good.1 before
   open_good-through link (Sequence w ∷ ps) good before = open_good-through (link_after link w) ps good.1 (open_good-after link w before good.0)
@@ -196,7 +196,7 @@ module _ (links : Links) where
       let are = start_codes_are s is in
       record { pieces = code_pieces (start_codes s); bytes = spelled-code_pieces (start_codes s); good = codes_good links (start_codes s) are.each (code_pieces_stand (start_codes s) are) }
 
-  made-put : (s : Rendition) (link w : List ℕ) → IsStyle s → IsOpenGood links link → AreGood links (pieces_of w) → IsMade links (put s link w)
+  pub made-put : (s : Rendition) (link w : List ℕ) → IsStyle s → IsOpenGood links link → AreGood links (pieces_of w) → IsMade links (put s link w)
   made-put s link w is good good_w = made-append links (made-good links w good_w) (by_test (has_escape w))
     where
       other : List ℕ
@@ -251,21 +251,20 @@ module _ (links : Links) where
   from_good a (Sequence w ∷ ps) good here = from_good a ps good.1 here
   from_good a (LoneEscape ∷ ps) good here = absurd good.0
 
-  pub made-up_to_place : (t : List ℕ) (a : ℕ) → AreGood links (pieces_of t) → a ≤ length (plain t) → no_character_goes_on (plain t) a ≡ true → parts_line_end (plain t) a ≡ false → IsMade links (take (place_of a t) t)
-  made-up_to_place t a good within here apart = elim (cases_lt 0 a) [
-    | inl some ↦ record {
-      pieces = up_to a (pieces_of t);
-      bytes = spelled-up_to a (pieces_of t) some within ∙ ap₂ take (sym (place_of-later t a some)) (spelled-pieces_of t);
-      good = up_to_good a (pieces_of t) good here apart;
-    }
+  pub up_to_place_good : (t : List ℕ) (a : ℕ) → AreGood links (pieces_of t) → a ≤ length (plain t) → no_character_goes_on (plain t) a ≡ true → parts_line_end (plain t) a ≡ false → AreGood links (pieces_of (take (place_of a t) t))
+  up_to_place_good t a good within here apart = elim (cases_lt 0 a) [
+    | inl some ↦ (
+        let u = take (place_in a (pieces_of t)) t in
+        let are : up_to a (pieces_of t) ≡ pieces_of u = pieces_of-unique u (up_to a (pieces_of t)) (up_to_are a t (pieces_of t) some within (pieces_are t)) in
+        subst (λ k. AreGood links (pieces_of (take k t))) (sym (place_of-later t a some)) (subst (AreGood links) are (up_to_good a (pieces_of t) good here apart)))
     | inr none ↦ (
         let zero_is : 0 ≡ a = omega (arith, none) in
-        subst (λ n. IsMade links (take (place_of n t) t)) zero_is
-        (made-front links t 0 good (ap (no_character_goes_on (plain t)) zero_is ∙ here) (ap (parts_line_end (plain t)) zero_is ∙ apart)))
+        subst (λ n. AreGood links (pieces_of (take (place_of n t) t))) zero_is
+        (front_is_good links t 0 good (ap (no_character_goes_on (plain t)) zero_is ∙ here) (ap (parts_line_end (plain t)) zero_is ∙ apart)))
   ]
 
-  pub place_good : (t : List ℕ) (a : ℕ) → AreGood links (pieces_of t) → a ≤ length (plain t) → no_character_goes_on (plain t) a ≡ true → AreGood links (pieces_of (drop (place_of a t) t))
-  place_good t a good within here = elim (cases_lt 0 a) [
+  pub from_place_good : (t : List ℕ) (a : ℕ) → AreGood links (pieces_of t) → a ≤ length (plain t) → no_character_goes_on (plain t) a ≡ true → AreGood links (pieces_of (drop (place_of a t) t))
+  from_place_good t a good within here = elim (cases_lt 0 a) [
     | inl some ↦ (
         let u = drop (place_in a (pieces_of t)) t in
         let are : from a (pieces_of t) ≡ pieces_of u = pieces_of-unique u (from a (pieces_of t)) (from_are a t (pieces_of t) some within (pieces_are t)) in
@@ -286,9 +285,9 @@ module _ (links : Links) where
       let after = drop (place_of a t) t in
       let good = safe_good links t (pieces_of t) (pieces_are t) utf8 both.0 in
       let good_w = safe_good links w (pieces_of w) (pieces_are w) utf8_w both.1 in
-      let good_after = place_good t a good range.within first.good_start in
+      let good_after = from_place_good t a good range.within first.good_start in
       let made = made-append links (made-append links (made-append links
-      (made-up_to_place t a good range.within first.good_start apart)
+      (made-good links (take (place_of a t) t) (up_to_place_good t a good range.within first.good_start apart))
       (made-put (style_at t (a - 1)) (link_at t (a - 1)) w (IsStyle-style_at t (a - 1)) (open_good-at t (a - 1) good) good_w))
       (made-sequences links after n good_after))
       (made-good links (rest n after) (rest_good links after n good_after (good_after_place t after r turn refl))) in
