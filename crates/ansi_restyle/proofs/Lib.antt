@@ -22,6 +22,7 @@ pub mod ReplaceLawLemmas
 pub mod WithoutLinksLemmas
 pub mod SafeEditLemmas
 pub mod SafePutLemmas
+pub mod SafeEachLemmas
 pub mod AddressLemmas
 pub mod LinkWalkLemmas
 pub mod LinkRangeLemmas

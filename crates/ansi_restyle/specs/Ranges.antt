@@ -24,3 +24,7 @@ parts_line_end x n = slice_index x (n - 1) == byte "\r" && slice_index x n == by
 -- none of the ranges begins or ends there (own)
 abbrev pub keep_line_ends : List ℕ → List (ℕ × ℕ) → Bool
 keep_line_ends x rs = list_all (λ (r : ℕ × ℕ). not (parts_line_end x r.0) && not (parts_line_end x r.1)) rs
+
+-- none of the ranges begins there (own)
+abbrev pub begin_outside_line_ends : List ℕ → List (ℕ × ℕ) → Bool
+begin_outside_line_ends x rs = list_all (λ (r : ℕ × ℕ). not (parts_line_end x r.0)) rs

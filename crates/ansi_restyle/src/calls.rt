@@ -14,7 +14,8 @@ ghost use Rattle.ansi_style.specs.Written.{written};
 ghost use Rattle.ansi_restyle.specs.Links.{has_link, links, without_links, IsWithoutLinks};
 ghost use Rattle.ansi_restyle.specs.Links.{is_clean_address, with_link, IsLinked};
 ghost use Rattle.ansi_restyle.specs.Matches.{matches};
-ghost use Rattle.ansi_restyle.specs.Ranges.{are_in_turn, are_empty, keep_line_ends, parts_line_end};
+ghost use Rattle.ansi_restyle.specs.Ranges.{are_in_turn, are_empty, begin_outside_line_ends};
+ghost use Rattle.ansi_restyle.specs.Ranges.{keep_line_ends, parts_line_end};
 ghost use Rattle.ansi_restyle.specs.Removed.{removed, IsRemoved};
 ghost use Rattle.ansi_restyle.specs.Replaced.{replaced, IsReplaced};
 ghost use Rattle.ansi_restyle.specs.ReplacedAll.{replaced_all, IsReplacedAll};
@@ -321,6 +322,10 @@ pub trait AnsiRestyle: AnsiStr {
     /// front, of the first character. Its own sequences come on top of that, and what it opens ends
     /// where it ends. Every other character keeps its style and its link.
     ///
+    /// If both texts are safe (`ansi_is_safe`), so is the result, unless a match begins between a
+    /// carriage return and a line feed. None does if the pattern has a first character other than a
+    /// line feed.
+    ///
     /// It is a borrow if nothing matches. A borrow doesn't allocate. Otherwise it is owned. `Err`
     /// means out of memory. Takes time in proportion to the text, the pattern and the result. (Own.)
     ///
@@ -341,6 +346,11 @@ pub trait AnsiRestyle: AnsiStr {
             cow_str_bytes c ≡ replaced_all (Self.text self.now) pat.now with.now) }
         ensures borrowed { IfOk result (λ c.
             IsBorrowedStr c ↔ (matches (plain (Self.text self.now)) pat.now ≡ [])) }
+        ensures safe { (links : Links) →
+            IsTrue (is_safe links (Self.text self.now) && is_safe links with.now) →
+            IsTrue (begin_outside_line_ends (plain (Self.text self.now))
+            (matches (plain (Self.text self.now)) pat.now)) →
+            IfOk result (λ c. IsTrue (is_safe links (cow_str_bytes c))) }
         ensures takes_no_memory { matches (plain (Self.text self.now)) pat.now ≡ [] →
             IsOk result }
     {

@@ -2,7 +2,10 @@
 ghost use Rattle.std.specs.Prelude.{◌≡◌, ◌++◌, ◌↔◌, ◌&&◌, [], IfOk, IsOk, IsTrue, OnOk, string_bytes};
 ghost use Rattle.std.specs.Cow.{cow_str_bytes, IsBorrowedStr};
 ghost use Rattle.ansi_items.specs.Plain.{plain, is_whole};
+ghost use Rattle.ansi_safe.specs.declared.policy.Links.{Links};
+ghost use Rattle.ansi_safe.specs.Safe.{is_safe};
 ghost use Rattle.ansi_restyle.specs.Matches.{matches};
+ghost use Rattle.ansi_restyle.specs.Ranges.{begin_outside_line_ends};
 ghost use Rattle.ansi_restyle.specs.ReplacedAll.{replaced_all, IsReplacedAll};
 
 use crate::matches::{Matches, find_from};
@@ -31,6 +34,9 @@ pub fn replace_all_in<'t, A: Allocator>(
         cow_str_bytes c ≡ replaced_all text.now pat.now with.now) }
     ensures borrowed { IfOk result (λ c.
         IsBorrowedStr c ↔ (matches (plain text.now) pat.now ≡ [])) }
+    ensures safe { (links : Links) → IsTrue (is_safe links text.now && is_safe links with.now) →
+        IsTrue (begin_outside_line_ends (plain text.now) (matches (plain text.now) pat.now)) →
+        IfOk result (λ c. IsTrue (is_safe links (cow_str_bytes c))) }
     ensures takes_no_memory { matches (plain text.now) pat.now ≡ [] → IsOk result }
 {
     if find_from(text, 0, pat).is_none() {

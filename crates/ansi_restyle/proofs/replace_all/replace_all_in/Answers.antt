@@ -1,9 +1,12 @@
-use Rattle.std.proofs.Common.{ℕ, List, [], ◌≡◌, ◌≢◌, Option, Some, None, is_some, true, false, sym, subst, rules}
+use Rattle.std.proofs.Common.{ℕ, List, [], ◌++◌, ◌≡◌, ◌≢◌, Option, Some, None, is_some, true, false, sym, ◌∙◌, ap, subst, rules, IsTrue}
+use Rattle.std.proofs.lemmas.Bool.{and_parts}
 use Rattle.ansi_items.specs.Plain.{plain}
 use Rattle.ansi_search.specs.Matches.{first_match_from}
+use Rattle.ansi_safe.specs.Safe.{is_safe}
 use Rattle.ansi_restyle.specs.Matches.{matches}
-use Rattle.ansi_restyle.specs.ReplacedAll.{IsReplacedAll}
+use Rattle.ansi_restyle.specs.ReplacedAll.{replaced_all, IsReplacedAll}
 use Rattle.ansi_restyle.proofs.ReplacedAllLemmas.{no_matches, some_matches, replaced_all-nothing, is_replaced_all}
+use Rattle.ansi_restyle.proofs.SafeEachLemmas.{safe-replaced_all}
 use Rattle.ansi_restyle.proofs.replace_all.replace_all_in.Goals as goal
 
 -- nothing matches
@@ -30,6 +33,9 @@ returns-then-is_none-clause-borrowed g c =
     let none = none_found (plain c.args.text.now) c.args.pat.now c.find_from.result c.find_from.ensures.first c.if-is_none.ensures in
     (λ is. none, λ is. tt)
 
+pub returns-then-is_none-clause-safe : goal.returns-then-is_none-clause-safe
+returns-then-is_none-clause-safe g c = λ links safe outside. (and_parts (is_safe links c.args.text.now) (is_safe links c.args.with.now) safe).0
+
 -- something does
 
 some_found : (x p : List ℕ) (r : Option ℕ) → r ≡ first_match_from x p 0 → is_some r ≡ true → matches x p ≢ []
@@ -55,3 +61,12 @@ pub returns-clause-borrowed : goal.returns-clause-borrowed
 returns-clause-borrowed g c =
     let some = some_found (plain c.args.text.now) c.args.pat.now c.find_from.result c.find_from.ensures.first c.if-is_none.ensures in
     (λ is. absurd is, λ none. absurd (some none))
+
+-- and safe, if no match begins between a carriage return and a line feed
+pub returns-clause-safe : goal.returns-clause-safe
+returns-clause-safe g c =
+    let t = c.args.text.now in
+    let p = c.args.pat.now in
+    let w = c.args.with.now in
+    let bytes = c.in_ok-push_replaced_all.ensures ∙ ap (λ (u : List ℕ). u ++ replaced_all t p w) c.in_ok-replaced.ensures.bytes in
+    λ links safe outside. subst (λ (u : List ℕ). IsTrue (is_safe links u)) (sym bytes) (safe-replaced_all links t p w c.utf8.text c.utf8.pat c.utf8.with safe outside)
