@@ -23,6 +23,7 @@ pub mod WithoutLinksLemmas
 pub mod SafeEditLemmas
 pub mod SafePutLemmas
 pub mod SafeEachLemmas
+pub mod LineEndLemmas
 pub mod AddressLemmas
 pub mod LinkWalkLemmas
 pub mod LinkRangeLemmas

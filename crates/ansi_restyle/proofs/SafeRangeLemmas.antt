@@ -117,7 +117,7 @@ module _ (w : List ℕ) (n : ℕ) (utf8 : IsUtf8 w) (boundary : IsCharBoundary w
 never_both : (b : ℕ) → ((b == 13) && (b == 10)) ≡ false
 never_both b = grind (arith, nat_tests)
 
-parts-front : (x : List ℕ) (n : ℕ) → n ≡ 0 → parts_line_end x n ≡ false
+pub parts-front : (x : List ℕ) (n : ℕ) → n ≡ 0 → parts_line_end x n ≡ false
 parts-front x n none = ap (parts_line_end x) none ∙ never_both (slice_index x 0)
 
 pub parts-drop : (x : List ℕ) (k n : ℕ) → parts_line_end x (k + n) ≡ false → parts_line_end (drop k x) n ≡ false

@@ -323,8 +323,8 @@ pub trait AnsiRestyle: AnsiStr {
     /// where it ends. Every other character keeps its style and its link.
     ///
     /// If both texts are safe (`ansi_is_safe`), so is the result, unless a match begins between a
-    /// carriage return and a line feed. None does if the pattern has a first character other than a
-    /// line feed.
+    /// carriage return and a line feed. None does if the pattern begins with another character than a
+    /// line feed (`laws::matches_begin_outside_line_ends`).
     ///
     /// It is a borrow if nothing matches. A borrow doesn't allocate. Otherwise it is owned. `Err`
     /// means out of memory. Takes time in proportion to the text, the pattern and the result. (Own.)

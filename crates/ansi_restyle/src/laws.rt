@@ -3,15 +3,16 @@
 //! Each function has one law as its contract, does nothing and returns nothing. A body that needs
 //! the law calls it, as `laws::other_marks_stay();`. (Own.)
 ghost use Rattle.std.specs.Prelude.{◌≡◌, ◌<◌, ◌≤◌, ◌-◌, ◌++◌, ℕ, List, [], IsTrue, length};
-ghost use Rattle.std.specs.Prelude.{map, slice_range};
-ghost use Rattle.std.specs.Str.{IsUtf8};
+ghost use Rattle.std.specs.Prelude.{◌==◌, ◌∷◌, IsFalse, map, slice_range};
+ghost use Rattle.std.specs.Str.{IsUtf8, byte};
 ghost use Rattle.ansi_items.specs.Plain.{plain, is_whole};
 ghost use Rattle.ansi_style.specs.Rendition.{known};
 ghost use Rattle.ansi_style.specs.Reading.{style_after_from, styled_from};
 ghost use Rattle.ansi_style.specs.Styled.{StyledByte, styled, style_at};
 ghost use Rattle.ansi_style.specs.Written.{written};
 ghost use Rattle.ansi_restyle.specs.Links.{LinkedRange, links};
-ghost use Rattle.ansi_restyle.specs.Ranges.{are_empty, are_in_turn};
+ghost use Rattle.ansi_restyle.specs.Matches.{matches};
+ghost use Rattle.ansi_restyle.specs.Ranges.{are_empty, are_in_turn, begin_outside_line_ends};
 ghost use Rattle.ansi_restyle.specs.Removed.{IsRemoved};
 ghost use Rattle.ansi_restyle.specs.Replaced.{IsReplaced};
 ghost use Rattle.ansi_restyle.specs.Restyled.{is_change, changed_byte, changed_within};
@@ -70,4 +71,11 @@ pub fn insertions_replace_what_was_removed()
 pub fn links_are_in_turn()
     ensures { (t : List ℕ) → IsUtf8 t →
         IsTrue (are_in_turn (plain t) 0 (map (λ (l : LinkedRange). l.range) (links t))) }
+{}
+
+/// No match begins between a carriage return and a line feed if the pattern begins with another
+/// byte than a line feed.
+pub fn matches_begin_outside_line_ends()
+    ensures { (x p : List ℕ) (b : ℕ) → IsFalse (b == byte "\n") →
+        IsTrue (begin_outside_line_ends x (matches x (b ∷ p))) }
 {}
