@@ -63,7 +63,8 @@ int main(void) {
 INNER = {'ansi_str_block_walk': ['walk->state + ANSI_STR_STATE_TEXT'],
          'ansi_str_line_walk': ['walk->state + ANSI_STR_STATE_TEXT'],
          'ansi_str_part_walk': ['walk->state + ANSI_STR_STATE_TEXT', 'walk->state + ANSI_STR_STATE_PATTERN'],
-         'ansi_str_next_block': ['(const unsigned char *)&block->text'], 'ansi_str_next_part': ['(const unsigned char *)&part->text']}
+         'ansi_str_next_block': ['(const unsigned char *)&block->text'], 'ansi_str_next_part': ['(const unsigned char *)&part->text'],
+         'ansi_str_pen': ['(const unsigned char *)&pen->link']}
 
 
 def parameters_of(words):

@@ -236,6 +236,10 @@ static ansi_str_answer call(const struct row *r, char *buffer, size_t len) {
         return ansi_str_link(TEXT(t), position(r, 0), position(r, 1), TEXT(argument(r, 2)), buffer, len);
     } else if (strcmp(name, "unlink") == 0) {
         return ansi_str_unlink(TEXT(t), buffer, len);
+    } else if (strcmp(name, "pen_start") == 0) {
+        return ansi_str_pen_start(TEXT(t), buffer, len);
+    } else if (strcmp(name, "pen_end") == 0) {
+        return ansi_str_pen_end(TEXT(t), buffer, len);
     } else if (strcmp(name, "restyle") == 0) {
         ansi_str_range *ranges = ranges_of(r, &count);
         ansi_str_answer restyled = ansi_str_restyle(TEXT(t), ranges, count, TEXT(argument(r, 0)), buffer, len);
@@ -525,6 +529,35 @@ static void expect_links(const struct row *r) {
     expect("nothing more is written", buffer[len] == GUARD && is_guard((const char *)&links[count], 0, sizeof *links));
     free(buffer);
     free(links);
+}
+
+/* What is open at the end of a row's text: what opens it again, the address of its link, and what closes it. */
+static void expect_pen(const struct row *r) {
+    static const struct text nothing = {"", 0};
+    static struct row half;
+    const struct text *t = text_of(r);
+    uint32_t status = status_of(r);
+    int is_told = status == ANSI_STR_OK;
+    expect("what is open", r->count == (is_told ? 7 : 4));
+    const struct text *start = is_told ? argument(r, 0) : &nothing, *end = is_told ? argument(r, 2) : &nothing;
+    const struct text *address = is_told ? argument(r, 1) : &nothing;
+    half = *r;
+    half.fields[0].bytes = "pen_start";
+    expect_writes(&half, status, start, 0);
+    half.fields[0].bytes = "pen_end";
+    expect_writes(&half, status, end, 0);
+    ansi_str_pen pen;
+    granted = 0;
+    ansi_str_answer answer = ansi_str_pen_after(TEXT(t), &pen);
+    granted = -1;
+    expect("a pen", answer.status == status && answer.len == 0 && pen.link_len == address->len);
+    const char *link = (const char *)pen.link;
+    expect("its link", memcmp(link, address->bytes, address->len) == 0);
+    expect("it is in the text", pen.link_len == 0 || (link > t->bytes && link + pen.link_len < t->bytes + t->len));
+    char codes[ANSI_STR_LONGEST_START];
+    size_t len = ansi_str_style_start(&pen.style, codes, sizeof codes).len;
+    expect("its style", len <= start->len && memcmp(codes, start->bytes, len) == 0);
+    expect("the sequence of its link", len == start->len || memcmp(start->bytes + len, "\x1b]8;", 4) == 0);
 }
 
 /* With this room, which is too small, a call for all parts or lines writes nothing, and returns how much they need. */
@@ -876,6 +909,10 @@ static void expect_failures(void) {
     expect("nothing", ansi_str_replace_all(NULL, 0, NULL, 0, NULL, 0, NULL, 0).status == ANSI_STR_OK);
     expect("no address", ansi_str_link(NULL, 0, 0, 0, NULL, 0, NULL, 0).status == ANSI_STR_REFUSED);
     expect("nothing", ansi_str_unlink(NULL, 0, NULL, 0).status == ANSI_STR_OK);
+    ansi_str_pen pen;
+    expect("nothing", ansi_str_pen_after(NULL, 0, &pen).status == ANSI_STR_OK && pen.link_len == 0);
+    expect("nothing", ansi_str_pen_start(NULL, 0, NULL, 0).status == ANSI_STR_OK);
+    expect("nothing", ansi_str_pen_end(NULL, 0, NULL, 0).status == ANSI_STR_OK);
     lines = ansi_str_links(NULL, 0, NULL, 0, NULL, 0);
     expect("no link", lines.status == ANSI_STR_OK && lines.count == 0 && lines.len == 0);
     lines = ansi_str_matches(NULL, 0, NULL, 0, NULL, 0);
@@ -953,6 +990,8 @@ static void expect_row(const struct row *r) {
         expect_matches(r);
     } else if (strcmp(name, "links") == 0) {
         expect_links(r);
+    } else if (strcmp(name, "pen_after") == 0) {
+        expect_pen(r);
     } else if (strcmp(name, "blocks") == 0) {
         expect_blocks(r);
     } else if (strcmp(name, "styled_blocks") == 0) {

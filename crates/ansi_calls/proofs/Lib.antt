@@ -5,4 +5,5 @@ pub mod ListLemmas
 pub mod ByteLemmas
 pub mod LineListLemmas
 pub mod LinkListLemmas
+pub mod PenLemmas
 pub mod MadeLemmas

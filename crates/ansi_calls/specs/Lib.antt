@@ -8,4 +8,5 @@ pub mod ColumnSteps
 pub mod Safe
 pub mod Restyles
 pub mod Links
+pub mod Pens
 pub mod Calls

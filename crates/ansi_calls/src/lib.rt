@@ -13,6 +13,7 @@ pub mod edits;
 pub mod lines;
 pub mod links;
 pub mod lists;
+pub mod pens;
 pub mod restyles;
 pub mod safe;
 pub mod searches;

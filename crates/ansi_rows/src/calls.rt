@@ -104,7 +104,7 @@ impl<'r> Call<'r> {
             "ends_with" => Call::EndsWith(row.argument(0)?),
             "is_char_boundary" => Call::IsCharBoundary(row.number(0)?),
             "floor_char_boundary" => Call::FloorCharBoundary(row.number(0)?),
-            "sanitize" | "is_safe" => Call::Safe(SafeCall::new(row)?),
+            "sanitize" | "is_safe" | "pen_after" => Call::Safe(SafeCall::new(row)?),
             "matches" | "find_from" | "restyle" | "mark" | "remove" | "replace" | "insert" => {
                 Call::Restyles(RestyleCall::new(row)?)
             }

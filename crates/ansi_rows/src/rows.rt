@@ -87,7 +87,7 @@ impl<'r> Row<'r> {
         let gives = match call.as_str() {
             "split" | "split_at" | "lines" | "wrap" | "matches" => more.get(1..)?,
             "wrap_with" => more.get(3..)?,
-            "blocks" | "styled_blocks" | "items" | "links" => more,
+            "blocks" | "styled_blocks" | "items" | "links" | "pen_after" => more,
             _ if status.as_str() == "0" => std::slice::from_ref(result),
             _ => &[],
         };

@@ -6,8 +6,8 @@
 
    Texts and buffers. A call takes each text and each pattern as a pointer and a length. They are UTF-8, need no 0 at their
    end and may contain one, and are read only during the call. The call writes its result into the caller's buffer. So
-   nothing is borrowed, and there is nothing to free. A buffer must not overlap a text or a pattern. A pointer may be NULL
-   if its length is 0.
+   there is nothing to free, and only walks, what they return, and an `ansi_str_pen` point into a text. A buffer must not
+   overlap a text or a pattern. A pointer may be NULL if its length is 0.
 
    Memory and threads. A call has no state: any number may run at once, in any threads. It allocates with `malloc` only if
    it has to, and frees that with `free` before it returns. On a text without ESC it doesn't allocate, unless its comment
@@ -228,6 +228,14 @@ typedef struct {
     ansi_str_style style;
 } ansi_str_next_block;
 
+/* What is open at the end of a text: the address of the link (OSC 8), which points into the text and has the length 0 if no link is
+   open; and the style. The text must live and stay unchanged while the address is used. */
+typedef struct {
+    const uint8_t *link;
+    size_t link_len;
+    ansi_str_style style;
+} ansi_str_pen;
+
 /* A walk over the parts of a text between the matches of a pattern, likewise. Text and pattern must live and stay unchanged
    while it is used. */
 typedef union {
@@ -341,6 +349,9 @@ ansi_str_answer ansi_str_raw_link(const uint8_t *text, size_t text_len, size_t s
 ansi_str_answer ansi_str_raw_unlink(const uint8_t *text, size_t text_len, uint8_t *buffer, size_t buffer_len);
 ansi_str_answers ansi_str_raw_links(const uint8_t *text, size_t text_len, uint8_t *buffer, size_t buffer_len,
                                     ansi_str_link_entry *links, size_t links_len);
+ansi_str_answer ansi_str_raw_pen_after(const uint8_t *text, size_t text_len, ansi_str_pen *pen);
+ansi_str_answer ansi_str_raw_pen_start(const uint8_t *text, size_t text_len, uint8_t *buffer, size_t buffer_len);
+ansi_str_answer ansi_str_raw_pen_end(const uint8_t *text, size_t text_len, uint8_t *buffer, size_t buffer_len);
 ansi_str_answer ansi_str_raw_starts_with(const uint8_t *text, size_t text_len, const uint8_t *pattern,
                                          size_t pattern_len);
 ansi_str_answer ansi_str_raw_ends_with(const uint8_t *text, size_t text_len, const uint8_t *pattern,
@@ -364,7 +375,7 @@ ansi_str_answers ansi_str_raw_blocks(const uint8_t *text, size_t text_len, uint8
                                      ansi_str_block_entry *blocks, size_t blocks_len);
 ansi_str_answers ansi_str_raw_styled_blocks(const uint8_t *text, size_t text_len, uint8_t *buffer, size_t buffer_len,
                                             ansi_str_styled_block_entry *blocks, size_t blocks_len);
-/* (walks, blocks and parts need good pointers too; `ansi_str_no_walk` and the like make those that have them) */
+/* (walks, blocks, parts and pens need good pointers too; `ansi_str_no_walk` and the like make those that have them) */
 ansi_str_answer ansi_str_raw_blocks_begin(const uint8_t *text, size_t text_len, ansi_str_block_walk *walk);
 ansi_str_answer ansi_str_raw_blocks_next(ansi_str_block_walk *walk, ansi_str_next_block *block, uint8_t *buffer,
                                          size_t buffer_len);
@@ -618,6 +629,37 @@ static inline ansi_str_answers ansi_str_links(const char *text, size_t text_len,
                               links_len);
 }
 
+/* A pen with nothing open. */
+static inline ansi_str_pen ansi_str_no_pen(void) {
+    ansi_str_pen pen;
+    memset(&pen, 0, sizeof pen);
+    pen.link = ansi_str_bytes(NULL);
+    return pen;
+}
+
+/* The style and the link (OSC 8) that are open at the end of the text, into `pen`. They go on into what is printed next. With any
+   status but ANSI_STR_OK nothing is open. Doesn't allocate.
+   After "\x1b[31mred \x1b]8;;http://x\x1b\\link" the style has the red foreground, and the link is "http://x". */
+static inline ansi_str_answer ansi_str_pen_after(const char *text, size_t text_len, ansi_str_pen *pen) {
+    *pen = ansi_str_no_pen();
+    return ansi_str_raw_pen_after(ansi_str_bytes(text), text_len, pen);
+}
+
+/* The sequences that open both again, such as before the next of several lines: those that set the style, and then the one that
+   opened the link, unless that has anything but printable ASCII. What an unknown SGR code has set isn't set again. At most
+   ANSI_STR_LONGEST_START + text_len bytes. Allocates if a style or a link is open.
+   After "\x1b[1;31mred" they are "\x1b[1m\x1b[31m". */
+static inline ansi_str_answer ansi_str_pen_start(const char *text, size_t text_len, char *buffer, size_t buffer_len) {
+    return ansi_str_raw_pen_start(ansi_str_bytes(text), text_len, ansi_str_room(buffer), buffer_len);
+}
+
+/* The sequences that close both: the end of the link, and then the close of the style. At most
+   ANSI_STR_LONGEST_LINK_END + ANSI_STR_LONGEST_CLOSE bytes. Allocates if there are any.
+   After "\x1b[1;31mred" they are "\x1b[22m\x1b[39m". */
+static inline ansi_str_answer ansi_str_pen_end(const char *text, size_t text_len, char *buffer, size_t buffer_len) {
+    return ansi_str_raw_pen_end(ansi_str_bytes(text), text_len, ansi_str_room(buffer), buffer_len);
+}
+
 /* Whether the plain text begins with the pattern: ANSI_STR_OK or ANSI_STR_NO. Doesn't allocate. */
 static inline ansi_str_answer ansi_str_starts_with(const char *text, size_t text_len, const char *pattern,
                                                    size_t pattern_len) {
@@ -741,7 +783,9 @@ static inline ansi_str_answer ansi_str_blocks_begin(const char *text, size_t tex
 /* The next block of a walk. Its run and its style go into `block`; the non-SGR sequences before the run, which most blocks
    don't have, go into the buffer. So the text of ansi_str_block is what the buffer holds and then the run. ANSI_STR_NO:
    there is none left. With any status but ANSI_STR_OK `block` is empty and the walk is unchanged, so the call can be made
-   again. A call reads up to the end of its block, so all blocks cost one walk. Allocates if there are such sequences. */
+   again. A call reads up to the end of its block, so all blocks cost one walk. Allocates if there are such sequences.
+   The position of a run is the length of the runs before it. Its link is that of ansi_str_links whose range has this position,
+   and has then the whole run, since a sequence ends a run. */
 static inline ansi_str_answer ansi_str_blocks_next(ansi_str_block_walk *walk, ansi_str_next_block *block, char *buffer,
                                                    size_t buffer_len) {
     *block = ansi_str_no_block();

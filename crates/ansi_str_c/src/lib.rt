@@ -7,6 +7,7 @@ pub mod blocks;
 pub mod columns;
 pub mod links;
 pub mod lists;
+pub mod pens;
 pub mod restyles;
 pub mod safe;
 pub mod searches;
