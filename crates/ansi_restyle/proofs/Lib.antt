@@ -17,6 +17,7 @@ pub mod PlaceLemmas
 pub mod LinkedLemmas
 pub mod IsRemovedLemmas
 pub mod ReplacedLemmas
+pub mod ReplacedEachLemmas
 pub mod ReplacedAllLemmas
 pub mod ReplaceLawLemmas
 pub mod WithoutLinksLemmas

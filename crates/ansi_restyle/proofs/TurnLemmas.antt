@@ -1,7 +1,7 @@
 -- How far a walk over ranges has come, and what a step is to it.
-use Rattle.std.proofs.Common.{◌≡◌, ℕ, ◌+◌, ◌-◌, ◌<◌, ◌≤◌, Bool, true, false, ◌&&◌, List, [], ◌∷◌, ◌++◌, length, drop, refl, sym, ◌∙◌, ap, ap₂, arith, IsTrue, IsFalse, append_assoc, nat_le}
+use Rattle.std.proofs.Common.{◌≡◌, ℕ, ◌+◌, ◌-◌, ◌≤◌, inl, inr, Bool, true, false, ◌&&◌, List, [], ◌∷◌, ◌++◌, length, drop, refl, sym, ◌∙◌, ap, ap₂, subst, arith, IsTrue, IsFalse, append_assoc, nat_le}
 use Rattle.std.proofs.Math.Bool.{and-true}
-use Rattle.std.proofs.lemmas.Bool.{le-leb, lt-leb}
+use Rattle.std.proofs.lemmas.Bool.{and_parts, leb-true, le-leb, lt-leb, cases_lt}
 use Rattle.std.proofs.lemmas.List.{drop-drop}
 use Rattle.std.proofs.lemmas.Str.{IsCharBoundary-start}
 use Rattle.std.specs.Str.{IsUtf8}
@@ -11,7 +11,7 @@ use Rattle.ansi_style.specs.declared.state.rendition.Rendition.{Rendition}
 use Rattle.ansi_style.specs.Reading.{style_within}
 use Rattle.ansi_search.specs.Positions.{no_character_goes_on, is_char_boundary}
 use Rattle.ansi_search.proofs.PositionLemmas.{no_character_goes_on-drop, no_character_goes_on-boundary}
-use Rattle.ansi_restyle.specs.Rests.{IsDivided}
+use Rattle.ansi_restyle.specs.Rests.{is_range_left, IsDivided}
 use Rattle.ansi_restyle.specs.Ranges.{are_in_turn}
 use Rattle.ansi_restyle.specs.Restyled.{front, rest, changed_pieces, restyled_from}
 use Rattle.ansi_restyle.proofs.FrontLemmas.{plain-rest}
@@ -45,47 +45,90 @@ pub record IsTurn (x : List ℕ) (all left : List (ℕ × ℕ)) (place : ℕ) (t
 pub turn-begin : (t : List ℕ) (all : List (ℕ × ℕ)) → IsUtf8 (plain t) → IsTurn (plain t) all all 0 t
 turn-begin t all utf8 = record { same = refl; is_left = left-begin t; good = no_character_goes_on-boundary (plain t) 0 (IsCharBoundary-start (plain t) utf8) }
 
+record RangeParts (x : List ℕ) (n : ℕ) (r : ℕ × ℕ) : Type 0 where
+  begins : n ≤ r.0
+  ends : r.0 ≤ r.1
+  good_start : no_character_goes_on x (r.0 - n) ≡ true
+  good_end : no_character_goes_on x (r.1 - n) ≡ true
+
+range_parts : (x : List ℕ) (n : ℕ) (r : ℕ × ℕ) → is_range_left x n r ≡ true → RangeParts x n r
+range_parts x n r good =
+    let a = and_parts (nat_le n r.0) (nat_le r.0 r.1 && (no_character_goes_on x (r.0 - n) && no_character_goes_on x (r.1 - n))) good in
+    let b = and_parts (nat_le r.0 r.1) (no_character_goes_on x (r.0 - n) && no_character_goes_on x (r.1 - n)) a.1 in
+    let c = and_parts (no_character_goes_on x (r.0 - n)) (no_character_goes_on x (r.1 - n)) b.1 in
+    record { begins = leb-true n r.0 a.0; ends = leb-true r.0 r.1 b.0; good_start = c.0; good_end = c.1 }
+
 and-false-1 : (a b : Bool) → b ≡ false → (a && b) ≡ false
 and-false-1 true b none = none
 and-false-1 false b none = refl
 
-module _ {x : List ℕ} {all left : List (ℕ × ℕ)} {place : ℕ} {text : List ℕ} (turn : IsTurn x all left place text) (r : ℕ × ℕ) (rs : List (ℕ × ℕ)) (first : left ≡ r ∷ rs) where
-  tests : are_in_turn x 0 all ≡ (nat_le place r.0 && (nat_le r.0 r.1 && (no_character_goes_on x r.0 && (no_character_goes_on x r.1 && are_in_turn x r.1 rs))))
-  tests = turn.same ∙ ap (are_in_turn x place) first
+-- which ranges are good in what is left of a text
+module _ (t : List ℕ) (n : ℕ) (r : ℕ × ℕ) {front after : List ℕ} (before : n ≤ r.0) (ordered : r.0 ≤ r.1) (divided : IsDivided t (r.0 - n) front after) where
+  at_end : no_character_goes_on (plain after) (r.1 - r.0) ≡ no_character_goes_on (plain t) (r.1 - n)
+  at_end =
+      let further : r.0 - n ≤ r.1 - n = omega (arith, ordered) in
+      let same : r.1 - r.0 ≡ r.1 - n - (r.0 - n) = omega (arith, before, ordered) in
+      ap (no_character_goes_on (plain after)) same ∙ goes_on-left (r.1 - n) (left-later (left-begin t) (omega arith) (subst (λ i. IsDivided t i front after) (omega arith) divided)) further
 
-  -- a range begins before the place, or ends before it begins
-  pub turn-early : r.0 < place → false ≡ are_in_turn x 0 all
-  turn-early early = sym (tests ∙ ap (λ b. b && (nat_le r.0 r.1 && (no_character_goes_on x r.0 && (no_character_goes_on x r.1 && are_in_turn x r.1 rs)))) (lt-leb place r.0 early))
+  pub bad-end : IsFalse (no_character_goes_on (plain after) (r.1 - r.0)) → IsFalse (is_range_left (plain t) n r)
+  bad-end bad = and-false-1 (nat_le n r.0) _ (and-false-1 (nat_le r.0 r.1) _ (and-false-1 (no_character_goes_on (plain t) (r.0 - n)) _ (sym at_end ∙ bad)))
 
-  pub turn-backwards : r.1 < r.0 → false ≡ are_in_turn x 0 all
-  turn-backwards back =
-      sym (tests ∙ and-false-1 (nat_le place r.0) _ (ap (λ b. b && (no_character_goes_on x r.0 && (no_character_goes_on x r.1 && are_in_turn x r.1 rs))) (lt-leb r.0 r.1 back)))
+  pub good-range : {inner last : List ℕ} → IsDivided after (r.1 - r.0) inner last → IsTrue (is_range_left (plain t) n r) × (plain last ≡ drop (r.1 - n) (plain t))
+  good-range {inner} {last} ended =
+      let sum : r.0 - n + (r.1 - r.0) ≡ r.1 - n = omega (arith, before, ordered) in (
+        ap₂ (λ a b. a && (b && (no_character_goes_on (plain t) (r.0 - n) && no_character_goes_on (plain t) (r.1 - n)))) (le-leb n r.0 before) (le-leb r.0 r.1 ordered)
+            ∙ ap₂ (λ a b. a && b) divided.good (sym at_end ∙ ended.good),
+        ap plain ended.rest_is ∙ plain-rest after (r.1 - r.0) ∙ ap (drop (r.1 - r.0)) (ap plain divided.rest_is ∙ plain-rest t (r.0 - n)) ∙ drop-drop (r.1 - r.0) (r.0 - n) (plain t) ∙ ap (λ k. drop k (plain t)) sum,
+      )
 
-  -- a character goes on at its start or at its end
-  pub turn-bad_start : place ≤ r.0 → IsFalse (no_character_goes_on (plain text) (r.0 - place)) → false ≡ are_in_turn x 0 all
-  turn-bad_start before bad =
-      let goes_on : no_character_goes_on x r.0 ≡ false = sym (goes_on-left r.0 turn.is_left before) ∙ bad in
-      sym (tests ∙ and-false-1 (nat_le place r.0) _ (and-false-1 (nat_le r.0 r.1) _ (ap (λ b. b && (no_character_goes_on x r.1 && are_in_turn x r.1 rs)) goes_on)))
+regroup_tests : (a b c : Bool) → (a && (b && c)) ≡ ((a && b) && c)
+regroup_tests true b c = refl
+regroup_tests false b c = refl
 
-  pub turn-bad_end : {front after : List ℕ} → place ≤ r.0 → r.0 ≤ r.1 → IsDivided text (r.0 - place) front after → IsFalse (no_character_goes_on (plain after) (r.1 - r.0)) → false ≡ are_in_turn x 0 all
-  turn-bad_end before ordered divided bad =
-      let goes_on : no_character_goes_on x r.1 ≡ false = sym (goes_on-left r.1 (left-later turn.is_left before divided) ordered) ∙ bad in
-      sym (tests ∙ and-false-1 (nat_le place r.0) _ (and-false-1 (nat_le r.0 r.1) _ (and-false-1 (no_character_goes_on x r.0) _ (ap (λ b. b && are_in_turn x r.1 rs) goes_on))))
+-- a range that is good in what is left is good in x
+range_left : {x left : List ℕ} {place : ℕ} → IsLeft x place left → (r : ℕ × ℕ) (rs : List (ℕ × ℕ)) → are_in_turn x place (r ∷ rs) ≡ (is_range_left (plain left) place r && are_in_turn x r.1 rs)
+range_left {x} {left} {place} is r rs =
+    let y = plain left in
+    let later = are_in_turn x r.1 rs in
+    elim (cases_lt r.0 place) [
+      | inl early ↦ (
+          let no = lt-leb place r.0 early in
+          ap (λ b. b && (nat_le r.0 r.1 && (no_character_goes_on x r.0 && (no_character_goes_on x r.1 && later)))) no
+          ∙ sym (ap (λ b. (b && (nat_le r.0 r.1 && (no_character_goes_on y (r.0 - place) && no_character_goes_on y (r.1 - place)))) && later) no))
+      | inr before ↦ elim (cases_lt r.1 r.0) [
+        | inl back ↦ (
+            let no = lt-leb r.0 r.1 back in
+            let yes = le-leb place r.0 before in
+            ap₂ (λ a b. a && (b && (no_character_goes_on x r.0 && (no_character_goes_on x r.1 && later)))) yes no
+            ∙ sym (ap₂ (λ a b. (a && (b && (no_character_goes_on y (r.0 - place) && no_character_goes_on y (r.1 - place)))) && later) yes no))
+        | inr ordered ↦ (
+            let yes = le-leb place r.0 before in
+            let also = le-leb r.0 r.1 ordered in
+            ap₂ (λ a b. a && (b && (no_character_goes_on x r.0 && (no_character_goes_on x r.1 && later)))) yes also
+            ∙ ap₂ (λ a b. a && (b && later)) (sym (goes_on-left r.0 is before)) (sym (goes_on-left r.1 is (omega (arith, before, ordered))))
+            ∙ regroup_tests (no_character_goes_on y (r.0 - place)) (no_character_goes_on y (r.1 - place)) later
+            ∙ sym (ap₂ (λ a b. (a && (b && (no_character_goes_on y (r.0 - place) && no_character_goes_on y (r.1 - place)))) && later) yes also))
+      ]
+    ]
 
-  -- a good range
-  pub turn-step : {front after inner last : List ℕ} → place ≤ r.0 → r.0 ≤ r.1 → IsDivided text (r.0 - place) front after → IsDivided after (r.1 - r.0) inner last → IsTurn x all rs r.1 last
-  turn-step before ordered divided ended =
-      let at_start = left-later turn.is_left before divided in
-      let good_start : no_character_goes_on x r.0 ≡ true = sym (goes_on-left r.0 turn.is_left before) ∙ divided.good in
-      let good_end : no_character_goes_on x r.1 ≡ true = sym (goes_on-left r.1 at_start ordered) ∙ ended.good in
-      let later = are_in_turn x r.1 rs in
+module _ {x : List ℕ} {all left : List (ℕ × ℕ)} {place : ℕ} {text : List ℕ} (turn : IsTurn x all left place text) {r : ℕ × ℕ} {rs : List (ℕ × ℕ)} (is : left ≡ r ∷ rs) where
+  tests : are_in_turn x 0 all ≡ (is_range_left (plain text) place r && are_in_turn x r.1 rs)
+  tests = turn.same ∙ ap (are_in_turn x place) is ∙ range_left turn.is_left r rs
+
+  -- the next range isn't good
+  pub turn-bad : IsFalse (is_range_left (plain text) place r) → false ≡ are_in_turn x 0 all
+  turn-bad bad = sym (tests ∙ ap (λ b. b && are_in_turn x r.1 rs) bad)
+
+  -- it is
+  pub turn-step : {after : List ℕ} → IsTrue (is_range_left (plain text) place r) × (plain after ≡ drop (r.1 - place) (plain text)) → IsTurn x all rs r.1 after
+  turn-step good =
+      let parts = range_parts (plain text) place r good.0 in
+      let ordered : place ≤ r.1 = omega (arith, parts.begins, parts.ends) in
+      let sum : place + (r.1 - place) ≡ r.1 = omega (arith, ordered) in
       record {
-        same =
-            tests ∙ ap (λ b. b && (nat_le r.0 r.1 && (no_character_goes_on x r.0 && (no_character_goes_on x r.1 && later)))) (le-leb place r.0 before)
-            ∙ ap (λ b. b && (no_character_goes_on x r.0 && (no_character_goes_on x r.1 && later))) (le-leb r.0 r.1 ordered)
-            ∙ ap₂ (λ a b. a && (b && later)) good_start good_end;
-        is_left = left-later at_start ordered ended;
-        good = good_end;
+        same = tests ∙ ap (λ b. b && are_in_turn x r.1 rs) good.0;
+        is_left = record { there = good.1 ∙ ap (drop (r.1 - place)) turn.is_left.there ∙ drop-drop (r.1 - place) place x ∙ ap (λ k. drop k x) sum };
+        good = sym (goes_on-left r.1 turn.is_left ordered) ∙ parts.good_end;
       }
 
 -- no range is left

@@ -5,6 +5,8 @@ pub mod Restyled
 pub mod Linked
 pub mod Removed
 pub mod Replaced
+pub mod ReplacedEach
+pub mod Replacing
 pub mod ReplacedAll
 pub mod Links
 pub mod Styles

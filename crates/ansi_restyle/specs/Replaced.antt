@@ -16,6 +16,10 @@ use Rattle.ansi_restyle.specs.Removed.{sequences}
 abbrev pub place_of : ℕ → List ℕ → ℕ
 place_of a t = if a == 0 then offset_of t 0 else offset_of t (a - 1) + 1
 
+-- where text is put after the first n plain bytes of what is left of a text: right after the last of them; at once if n is 0
+abbrev pub place_after : ℕ → List ℕ → ℕ
+place_after n t = if n == 0 then 0 else offset_of t (n - 1) + 1
+
 -- what brings the link back where `other` is open: nothing if both are the same, the end of the other if no link was open, or the sequence that opened the link (own)
 abbrev pub link_back : List ℕ → List ℕ → List ℕ
 link_back link other = if bytes_eq other link then [] else (if length link == 0 then link_end other else link)

@@ -19,6 +19,8 @@ ghost use Rattle.ansi_restyle.specs.Ranges.{keep_line_ends, parts_line_end};
 ghost use Rattle.ansi_restyle.specs.Removed.{removed, IsRemoved};
 ghost use Rattle.ansi_restyle.specs.Replaced.{replaced, IsReplaced};
 ghost use Rattle.ansi_restyle.specs.ReplacedAll.{replaced_all, IsReplacedAll};
+ghost use Rattle.ansi_restyle.specs.ReplacedEach.{swaps_of, ranges_of, are_whole, swap_nothing};
+ghost use Rattle.ansi_restyle.specs.ReplacedEach.{replaced_each, IsReplacedEach};
 ghost use Rattle.ansi_restyle.specs.Restyled.{is_change, restyled, IsRestyled};
 
 use crate::links::{link_in, unlink_in};
@@ -26,6 +28,7 @@ use crate::matches::{Matches, find_from};
 use crate::remove::remove_in;
 use crate::replace::{insert_in, replace_in};
 use crate::replace_all::replace_all_in;
+use crate::replace_each::{Replacement, replace_each_in};
 use crate::restyle::{mark_in, restyle_in};
 use ansi_str::AnsiStr;
 use std::alloc::{AllocError, Global};
@@ -355,6 +358,56 @@ pub trait AnsiRestyle: AnsiStr {
             IsOk result }
     {
         replace_all_in(alloc, self.as_text(), pat, with)
+    }
+
+    /// The text with a text of its own in place of each of many ranges.
+    ///
+    /// Each range is replaced as `ansi_replace` does it: its new text is in the style and the link that
+    /// the character before the range has in this text; at the front, of the first character. Its own
+    /// sequences come on top of that, and what it opens ends where it ends. Every other character
+    /// keeps its style and its link.
+    ///
+    /// A range is a pair of positions, which count bytes of the plain text of this text. The ranges
+    /// have to be in order and mustn't overlap. It is `None` exactly if `ansi_restyle` would refuse
+    /// them. Texts at the same position stand in the order of their ranges.
+    ///
+    /// It is a borrow if each range is empty, and so is the text in its place. A borrow and a `None`
+    /// don't allocate. Otherwise it is owned. `Err` means out of memory. Takes time in proportion to
+    /// the text, the ranges and the result. (Own.)
+    ///
+    /// ```
+    /// let edits = [
+    ///     Replacement {
+    ///         range: (0, 3),
+    ///         with: "1",
+    ///     },
+    ///     Replacement {
+    ///         range: (4, 7),
+    ///         with: "2",
+    ///     },
+    /// ];
+    /// let replaced = "\x1b[32mone\x1b[39m two".ansi_replace_each(rt.alloc(), &edits);
+    /// assert!(rt; matches!(&replaced, Ok(Some(replaced)) if replaced.as_str() == "\x1b[32m1\x1b[39m 2"));
+    /// ```
+    final fn ansi_replace_each(
+        &self,
+        alloc: Global,
+        edits: &[Replacement<'_>],
+    ) -> Result<Option<CowStr<'_>>, AllocError>
+        ensures headline { IsTrue (is_whole (Self.text self.now) && are_whole (swaps_of edits.now)) →
+            IfOk result (λ o. IfSome o (λ c.
+            IsReplacedEach (Self.text self.now) (swaps_of edits.now) (cow_str_bytes c))) }
+        ensures none { IfOk result (λ o. IsNone o ↔ IsFalse
+            (are_in_turn (plain (Self.text self.now)) 0 (ranges_of (swaps_of edits.now)))) }
+        ensures bytes { IfOk result (λ o. IfSome o (λ c.
+            cow_str_bytes c ≡ replaced_each (Self.text self.now) (swaps_of edits.now))) }
+        ensures borrowed { IfOk result (λ o. IfSome o (λ c.
+            IsBorrowedStr c ↔ IsTrue (swap_nothing (swaps_of edits.now)))) }
+        ensures takes_no_memory { IsTrue (swap_nothing (swaps_of edits.now)) ⊎ IsFalse
+            (are_in_turn (plain (Self.text self.now)) 0 (ranges_of (swaps_of edits.now))) →
+            IsOk result }
+    {
+        replace_each_in(alloc, self.as_text(), edits)
     }
 
     /// The links of the text, in order: an iterator over the range and the address of each.

@@ -13,6 +13,7 @@ pub mod matches;
 pub mod remove;
 pub mod replace;
 pub mod replace_all;
+pub mod replace_each;
 mod rest;
 pub mod restyle;
 pub mod styles;

@@ -12,7 +12,7 @@ ghost use Rattle.ansi_style.specs.States.{rendition_of};
 ghost use Rattle.ansi_style.specs.Styled.{style_at};
 ghost use Rattle.ansi_restyle.specs.Ranges.{are_in_turn, parts_line_end};
 ghost use Rattle.ansi_restyle.specs.Replaced.{place_of, link_back, put, replaced, IsReplaced};
-ghost use Rattle.ansi_restyle.specs.ReplacedAll.{without_front};
+ghost use Rattle.ansi_restyle.specs.ReplacedEach.{without_front};
 
 use crate::rest::Rest;
 use crate::restyle::are_in_turn;
@@ -109,7 +109,7 @@ pub fn insert_in<'t, A: Allocator>(
 #[derive(Clone, Copy)]
 pub(crate) struct Place<'t> {
     pub(crate) offset: usize,
-    pen: Pen<'t>,
+    pub(crate) pen: Pen<'t>,
 }
 
 /// Where a text is put in at a position: right after the character before it, or at the front, right

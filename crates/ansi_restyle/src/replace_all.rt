@@ -9,9 +9,8 @@ ghost use Rattle.ansi_restyle.specs.Ranges.{begin_outside_line_ends};
 ghost use Rattle.ansi_restyle.specs.ReplacedAll.{replaced_all, IsReplacedAll};
 
 use crate::matches::{Matches, find_from};
-use crate::replace::{push_put, push_without_front};
-use crate::rest::Rest;
-use ansi_safe::links::{pen_after_from, plain_pen};
+use crate::replace::push_without_front;
+use crate::replace_each::Replacing;
 use std::alloc::{AllocError, Allocator};
 use std::borrow::CowStr;
 
@@ -58,18 +57,9 @@ fn push_replaced_all<A: Allocator>(
     ensures { OnOk result (string_bytes out.new
         ≡ string_bytes out.old ++ replaced_all text.now pat.now with.now) }
 {
-    let mut rest = Rest::new(text);
-    let mut pen = plain_pen();
-    let mut place = 0;
-    let mut len = 0;
-    for (start, end) in Matches::new(text, pat) {
-        let (before, after) = rest.split_at_place(start - place);
-        push_without_front(out, before, len)?;
-        pen = pen_after_from(pen, before);
-        push_put(out, with, &pen)?;
-        rest = after;
-        place = start;
-        len = end - start;
+    let mut replacing = Replacing::begin(out, text)?;
+    for range in Matches::new(text, pat) {
+        replacing.put(out, range, with)?;
     }
-    push_without_front(out, rest.text, len)
+    push_without_front(out, replacing.rest.text, replacing.len)
 }

@@ -1,5 +1,5 @@
 //! What is left of a text.
-ghost use Rattle.std.specs.Prelude.{◌≡◌, ◌<◌, take, drop, length, IfSome, IsFalse, IsTrue};
+ghost use Rattle.std.specs.Prelude.{◌≡◌, ◌<◌, ◌-◌, take, drop, length, IfSome, IsFalse, IsTrue};
 ghost use Rattle.std.specs.Option.{MatchOption};
 ghost use Rattle.std.specs.Str.{IsCharBoundary};
 ghost use Rattle.ansi_items.specs.Plain.{plain, has_escape};
@@ -7,8 +7,8 @@ ghost use Rattle.ansi_search.specs.Matches.{first_match_from};
 ghost use Rattle.ansi_search.specs.Positions.{is_char_boundary, no_character_goes_on};
 ghost use Rattle.ansi_style.specs.Reading.{style_within};
 ghost use Rattle.ansi_style.specs.States.{rendition_of};
-ghost use Rattle.ansi_restyle.specs.Replaced.{place_of};
-ghost use Rattle.ansi_restyle.specs.Rests.{IsDivided};
+ghost use Rattle.ansi_restyle.specs.Replaced.{place_after};
+ghost use Rattle.ansi_restyle.specs.Rests.{is_range_left, IsDivided};
 
 use crate::replace::place_of;
 use ansi_items::ansitok::{Kind, Scanner};
@@ -104,19 +104,42 @@ impl<'t> Rest<'t> {
         Some(Divided { front, rest })
     }
 
-    /// The text in two where another text is put in at a position.
+    /// The text in two where another text is put after this many plain bytes.
     pub(crate) fn split_at_place(&self, position: usize) -> (&'t str, Rest<'t>)
         requires { IsTrue (is_char_boundary (plain self.now.text.now) position) }
-        ensures front { result.0.now ≡ take (place_of position self.now.text.now) self.now.text.now }
-        ensures rest { result.1.text.now ≡ drop (place_of position self.now.text.now) self.now.text.now }
+        ensures front { result.0.now
+            ≡ take (place_after position self.now.text.now) self.now.text.now }
+        ensures rest { result.1.text.now
+            ≡ drop (place_after position self.now.text.now) self.now.text.now }
     {
-        if 0 < position && position < self.run_len {
+        if position <= self.run_len {
             let (front, text) = self.text.split_at(position);
             let run_len = self.run_len - position;
             return (front, Rest { text, run_len });
         }
         let (front, text) = self.text.split_at(place_of(self.text, position).offset);
         (front, Rest::new(text))
+    }
+
+    /// What is left after a range, if it begins at `place` of a plain text. `None` if the range begins
+    /// before `place`, or ends before it begins, or if it isn't from a character to another.
+    pub(crate) fn after_range(&self, place: usize, range: (usize, usize)) -> Option<Rest<'t>>
+        ensures { MatchOption result
+            (IsFalse (is_range_left (plain self.now.text.now) place range)) (λ rest.
+            IsTrue (is_range_left (plain self.now.text.now) place range)
+            × (plain rest.text.now ≡ drop (range.1 - place) (plain self.now.text.now))) }
+    {
+        let (start, end) = range;
+        if start < place || end < start {
+            return None;
+        }
+        let Some(at_start) = self.divide(start - place) else {
+            return None;
+        };
+        let Some(at_end) = at_start.rest.divide(end - start) else {
+            return None;
+        };
+        Some(at_end.rest)
     }
 }
 

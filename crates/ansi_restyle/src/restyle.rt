@@ -172,18 +172,12 @@ pub(crate) fn are_in_turn(text: &str, ranges: &[(usize, usize)]) -> bool
 {
     let mut rest = Rest::new(text);
     let mut place = 0;
-    for &(start, end) in ranges {
-        if start < place || end < start {
-            return false;
-        }
-        let Some(at_start) = rest.divide(start - place) else {
+    for &range in ranges {
+        let Some(after) = rest.after_range(place, range) else {
             return false;
         };
-        let Some(at_end) = at_start.rest.divide(end - start) else {
-            return false;
-        };
-        rest = at_end.rest;
-        place = end;
+        rest = after;
+        place = range.1;
     }
     search::is_char_boundary(text, place)
 }

@@ -5,6 +5,7 @@ use ansi_restyle::matches::Matches;
 use ansi_restyle::remove::remove_in;
 use ansi_restyle::replace::{insert_in, replace_in};
 use ansi_restyle::replace_all::replace_all_in;
+use ansi_restyle::replace_each::{Replacement, replace_each_in};
 use ansi_restyle::restyle::{mark_in, restyle_in};
 use ansi_restyle::styles::{difference, style_of, union};
 use ansi_str::Color;
@@ -165,6 +166,42 @@ fn ansi_replace_all_example(rt: HostRuntime) {
     let replaced = "\x1b[32mone\x1b[39m, one".ansi_replace_all(rt.alloc(), "one", "two");
     assert!(rt;
         matches!(&replaced, Ok(replaced) if replaced.as_str() == "\x1b[32mtwo\x1b[39m, two")
+    );
+}
+
+#[test]
+fn replace_each_in_example(rt: HostRuntime) {
+    let edits = [
+        Replacement {
+            range: (0, 1),
+            with: "A",
+        },
+        Replacement {
+            range: (3, 5),
+            with: "\x1b[1mip",
+        },
+    ];
+    let replaced = replace_each_in(rt.alloc(), "a \x1b[31mred\x1b[39m", &edits);
+    assert!(rt;
+        matches!(&replaced, Ok(Some(replaced)) if replaced.as_str() == "A \x1b[31mr\x1b[1mip\x1b[22m\x1b[39m\x1b[31m\x1b[39m")
+    );
+}
+
+#[test]
+fn ansi_replace_each_example(rt: HostRuntime) {
+    let edits = [
+        Replacement {
+            range: (0, 3),
+            with: "1",
+        },
+        Replacement {
+            range: (4, 7),
+            with: "2",
+        },
+    ];
+    let replaced = "\x1b[32mone\x1b[39m two".ansi_replace_each(rt.alloc(), &edits);
+    assert!(rt;
+        matches!(&replaced, Ok(Some(replaced)) if replaced.as_str() == "\x1b[32m1\x1b[39m 2")
     );
 }
 

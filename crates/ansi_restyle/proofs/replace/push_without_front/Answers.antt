@@ -3,7 +3,7 @@ use Rattle.ansi_items.specs.Plain.{plain}
 use Rattle.ansi_search.proofs.PositionLemmas.{no_character_goes_on-past}
 use Rattle.ansi_restyle.specs.Rests.{IsDivided}
 use Rattle.ansi_restyle.proofs.RemovedLemmas.{length-part}
-use Rattle.ansi_restyle.proofs.ReplacedAllLemmas.{without_front-written}
+use Rattle.ansi_restyle.proofs.ReplacedEachLemmas.{without_front-written}
 use Rattle.ansi_restyle.proofs.replace.push_without_front.Goals as goal
 
 -- all sequences of the front are written
