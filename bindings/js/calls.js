@@ -93,6 +93,15 @@ const raw = {
     return called([text], [], roomForOne, (exports, frame) => exports.ansi_str_raw_unlink(...frame.head, ...frame.texts[0], ...frame.out), written);
   },
 
+  /** What opens again what is open at the end of the text, and what closes it. */
+  penStart(text) {
+    return called([text], [], roomForOne, (exports, frame) => exports.ansi_str_raw_pen_start(...frame.head, ...frame.texts[0], ...frame.out), written);
+  },
+
+  penEnd(text) {
+    return called([text], [], roomForOne, (exports, frame) => exports.ansi_str_raw_pen_end(...frame.head, ...frame.texts[0], ...frame.out), written);
+  },
+
   /** The links, whose ranges are in bytes. */
   links(text) {
     return called([text], [], roomForList(text, LINK),
@@ -572,9 +581,8 @@ export function iterSplit(text, pattern) {
   return iterParts(textOf('text', text), textOf('pattern', pattern));
 }
 
-/** A character that no sequence before it takes in, nor another such character joins; and what closes a link (OSC 8). */
+/** A character that no sequence before it takes in. */
 const CELL = '\xe9';
-const LINK_END = '\x1b]8;;\x1b\\';
 
 /** The address of the link after sequences, if `link` is open before them. */
 function linkAfter(link, sequences) {
@@ -611,9 +619,7 @@ export function blocks(text) {
 export function penAfter(text) {
   const sequences = remove(text, 0, strip(text).length);
   const [{ style, link }] = blocks(sequences + CELL);
-  // (a slice opens first what is open where it begins, and closes that at its end, but for a link that it leaves out)
-  const [start, end] = raw.sliceColumns(sequences + CELL + CELL, 1, 2).split(CELL);
-  return { style, link, start, end: link !== null && !end.startsWith(LINK_END) ? LINK_END + end : end };
+  return { style, link, start: raw.penStart(text), end: raw.penEnd(text) };
 }
 
 export function width(text) {

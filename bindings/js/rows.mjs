@@ -196,6 +196,10 @@ function answersOf(ansi, call, found, want, text, more) {
       return [[ansi.sanitize(text, { show: first === 'Show', links: second === 'Keep' }), want]];
     case 'is_safe':
       return [[ansi.isSafe(text, { links: first === 'Keep' }), found !== null]];
+    case 'pen_after': {
+      const { link, start, end } = ansi.penAfter(text);
+      return [[[start, link ?? '', end], more]];
+    }
     default:
       throw new Error(`no call of a row: ${call}`);
   }

@@ -120,6 +120,7 @@ MADE = {
     "unlink": lambda text: [ansi_str.unlink(text)],
     "links": lambda text, *_: [[(link.start, link.end, link.address) for link in ansi_str.links(text)]],
     "is_safe": lambda text, links: [ansi_str.is_safe(text, links=links == "Keep")],
+    "pen_after": lambda text, *_: [[pen.start, pen.link or "", pen.end] for pen in [ansi_str.pen_after(text)]],
 }
 
 
@@ -161,6 +162,8 @@ def said(call, status, want, text, more):
         return int(want)
     if call in ("split", "split_at", "wrap"):
         return more[1:]
+    if call == "pen_after":
+        return more
     if call == "wrap_with":
         return more[3:]
     if call in ("lines", "matches"):
@@ -608,7 +611,7 @@ class Private(unittest.TestCase):
     WRONG = {
         "bytes": [(b"\xff", ValueError)] + [(wrong, TypeError) for wrong in TYPES + [1, ()]],
         "number": [(-1, ValueError), (-2**64, ValueError)] + [(wrong, TypeError) for wrong in TYPES + [b"a", ()]],
-        "kind": [(-1, ValueError), (19, ValueError), (2**31 - 1, ValueError), (2**31, OverflowError), (-2**200, OverflowError)]
+        "kind": [(-1, ValueError), (21, ValueError), (2**31 - 1, ValueError), (2**31, OverflowError), (-2**200, OverflowError)]
                 + [(wrong, TypeError) for wrong in TYPES + [b"a", ()]],
         "steps": [(wrong, TypeError) for wrong in TYPES + [b"a", 1, (1,), ((),), ((0, 0, 0),), ((0, 0, 0, b"", 0),), ([0, 0, 0, b""],)]],
         "ranges": [(wrong, TypeError) for wrong in TYPES + [b"a", 1, (1,), ((),), ((0,),), ((0, 1, 2),), ([0, 1],), ((None, 1),), ((0, "a"),)]]
@@ -645,7 +648,7 @@ class Private(unittest.TestCase):
         for name, given in self.GOOD.items():
             self.refused(getattr(ansi_str._library, name), given)
         edit = ansi_str._library.edit
-        for kind in range(19):
+        for kind in range(21):
             self.refused(lambda *step: edit(b"a", True, (step + (b"",),)), [("kind", kind), ("number", 0), ("number", 1)])
         # (the others don't read their pattern)
         for kind in (*range(9), 15, 16):

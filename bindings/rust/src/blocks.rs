@@ -9,7 +9,7 @@ use std::option;
 use std::sync::Arc;
 
 /// A character that no sequence before it takes in, nor another such character joins.
-pub(crate) const CELL: char = '\u{e9}';
+const CELL: char = '\u{e9}';
 
 /// The blocks of a text, in order. Each is a run of text up to the next sequence, after the non-SGR sequences since the
 /// last run.

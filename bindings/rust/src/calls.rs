@@ -132,6 +132,13 @@ struct RawBlock {
 }
 
 #[repr(C)]
+struct RawPen {
+    link: Bytes,
+    len: usize,
+    style: RawStyle,
+}
+
+#[repr(C)]
 #[derive(Clone, Copy)]
 struct RawLine {
     start: usize,
@@ -477,6 +484,9 @@ extern "C" {
         m: usize,
     ) -> Answer;
     fn ansi_str_raw_is_safe(t: Bytes, n: usize, links: u32) -> Answer;
+    fn ansi_str_raw_pen_after(t: Bytes, n: usize, pen: *mut RawPen) -> Answer;
+    fn ansi_str_raw_pen_start(t: Bytes, n: usize, b: Room, m: usize) -> Answer;
+    fn ansi_str_raw_pen_end(t: Bytes, n: usize, b: Room, m: usize) -> Answer;
     fn ansi_str_raw_style_start(style: *const RawStyle, b: Room, m: usize) -> Answer;
     fn ansi_str_raw_style_end(style: *const RawStyle, b: Room, m: usize) -> Answer;
 }
@@ -791,6 +801,39 @@ pub(crate) fn unlink(text: &str) -> String {
         unsafe { ansi_str_raw_unlink(text.as_ptr(), text.len(), b, m) }
     })
     .unwrap_or_else(|_| unreachable!("the call isn't refused"))
+}
+
+/// The style that is open at the end of a text, and the address of its link, which is empty if none is open.
+pub(crate) fn pen_after(text: &str) -> (Style, Cow<'_, str>) {
+    let mut pen = RawPen {
+        link: "".as_ptr(),
+        len: 0,
+        style: RawStyle::PLAIN,
+    };
+    // SAFETY: a `str`, and a pen with a good pointer
+    let answer = unsafe { ansi_str_raw_pen_after(text.as_ptr(), text.len(), &mut pen) };
+    debug_assert!(answer.status == OK);
+    // SAFETY: a stretch of the text, or the empty text above
+    let link = unsafe { slice::from_raw_parts(pen.link, pen.len) };
+    (Style(pen.style), String::from_utf8_lossy(link))
+}
+
+/// What opens both again.
+pub(crate) fn pen_start(text: &str) -> String {
+    write_pen(ansi_str_raw_pen_start, text)
+}
+
+/// What closes both.
+pub(crate) fn pen_end(text: &str) -> String {
+    write_pen(ansi_str_raw_pen_end, text)
+}
+
+fn write_pen(call: Write, text: &str) -> String {
+    // (only a start with a long link needs more)
+    always(written(LONGEST_START_AND_CLOSE, |b, m| {
+        // SAFETY: a `str`, and the room
+        unsafe { call(text.as_ptr(), text.len(), b, m) }
+    }))
 }
 
 /// The addresses of all links, concatenated, and where each link and its address is.

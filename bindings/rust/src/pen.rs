@@ -1,10 +1,6 @@
 //! What is open at the end of a text. The Rust crate lacks this.
 
-use crate::blocks::{get_blocks, CELL};
 use crate::{calls, AnsiStr, Style};
-
-/// What closes a link (OSC 8).
-const LINK_END: &str = "\x1b]8;;\x1b\\";
 
 /// The style and the link that are open at the end of a text; [`pen_after`] returns it.
 ///
@@ -77,32 +73,19 @@ impl Pen {
 /// ```
 #[must_use]
 pub fn pen_after(text: &str) -> Pen {
-    let bare = Pen {
-        style: Style::EMPTY,
-        link: None,
-        start: String::new(),
-        end: String::new(),
-    };
-    if text.ansi_has_any() {
-        open_after(text).unwrap_or(bare)
-    } else {
-        bare
+    if !text.ansi_has_any() {
+        return Pen {
+            style: Style::EMPTY,
+            link: None,
+            start: String::new(),
+            end: String::new(),
+        };
     }
-}
-
-/// The same for a text with an ESC. It is never `None`.
-fn open_after(text: &str) -> Option<Pen> {
-    let sequences = calls::remove(text, 0, text.ansi_strip().len())?;
-    let marked = format!("{sequences}{CELL}");
-    let block = get_blocks(&marked).next()?;
-    // a slice opens first what is open where it begins, and closes that at its end, but for a link that it leaves out
-    let slice = calls::slice(&format!("{marked}{CELL}"), 1, 2);
-    let (start, end) = slice.split_once(CELL)?;
-    let is_left_out = block.link().is_some() && !end.starts_with(LINK_END);
-    Some(Pen {
-        style: *block.style(),
-        link: block.link().map(str::to_owned),
-        start: start.to_owned(),
-        end: format!("{}{end}", if is_left_out { LINK_END } else { "" }),
-    })
+    let (style, link) = calls::pen_after(text);
+    Pen {
+        style,
+        link: Some(link.into_owned()).filter(|link| !link.is_empty()),
+        start: calls::pen_start(text),
+        end: calls::pen_end(text),
+    }
 }

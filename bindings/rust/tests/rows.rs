@@ -3,7 +3,7 @@
 use ansi_str::columns::{edit_columns, Alignment, AnsiColumns, ColumnEdit, Side, Truncation, Wrap};
 use ansi_str::restyle::{AnsiLink, AnsiRestyle};
 use ansi_str::safe::{sanitize_bytes, AnsiSafe, Links, Policy, Rest};
-use ansi_str::{edit, get_blocks, is_whole, part, AnsiBlock, AnsiStr, Color, Edit};
+use ansi_str::{edit, get_blocks, is_whole, part, pen_after, AnsiBlock, AnsiStr, Color, Edit};
 use std::borrow::Cow;
 use std::cmp::Ordering;
 use std::collections::BTreeMap;
@@ -327,6 +327,10 @@ fn pass(call: &str, status: &str, want: &str, text: &str, more: &[String]) -> Op
             is(Some(text.ansi_sanitize(Policy { rest, links })))
         }
         "is_safe" => text.ansi_is_safe(links_of(&more[0])) == is_ok,
+        "pen_after" => {
+            let pen = pen_after(text);
+            more == [pen.start(), pen.link().unwrap_or(""), pen.end()]
+        }
         _ if LACKING.contains(&call) => return None,
         _ => panic!("no call of a row: {call}"),
     })

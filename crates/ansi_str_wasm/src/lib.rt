@@ -8,6 +8,7 @@ pub mod columns;
 pub mod links;
 pub mod lists;
 mod memory;
+pub mod pens;
 pub mod restyles;
 pub mod safe;
 pub mod searches;

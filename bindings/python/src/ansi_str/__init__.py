@@ -98,7 +98,7 @@ _STYLE = struct.Struct("=I4B4B4B?B")
 
 # the kinds of edits, the last position, and the questions about a text
 (_CUT, _LEFT, _RIGHT, _PART, _PREFIX, _SUFFIX, _TRIM, _TRUNCATE, _FIT, _PAD, _SANITIZE, _LINK_AT, _SLICE, _EXPAND_TABS,
- _REMOVE, _REPLACE, _LINK, _UNLINK) = range(18)
+ _REMOVE, _REPLACE, _LINK, _UNLINK, _PEN_START, _PEN_END) = range(20)
 _LAST = sys.maxsize
 _STARTS_WITH, _ENDS_WITH, _HAS_ANY, _IS_WHOLE, _IS_SAFE, _FIND, _FIND_FROM, _FITTING, _WIDTH, _COLUMN_OF = range(10)
 
@@ -908,9 +908,8 @@ def _style_of(data: bytes, start: str, end: str) -> Style:
     return Style(names, colors[0], colors[1], end != "", start, end, colors[2], fields[14] if fields[13] else None)
 
 
-# a character that no sequence before it takes in, nor another such character joins; and what closes a link (OSC 8)
+# a character that no sequence before it takes in
 _CELL = "\xe9"
-_LINK_END = "\x1b]8;;\x1b\\"
 # the styles of the last blocks, by their bytes
 _STYLES: Dict[bytes, Style] = {}
 _MOST_STYLES = 256
@@ -978,7 +977,4 @@ def pen_after(text: str) -> Pen:
     """
     sequences = remove(text, 0, len(strip(text)))
     _, style, link, _ = blocks(sequences + _CELL)[0]
-    # (a slice opens first what is open where it begins, and closes that at its end, but for a link that it leaves out)
-    start, _, end = slice_columns(sequences + _CELL * 2, 1, 2).partition(_CELL)
-    is_left_out = link is not None and not end.startswith(_LINK_END)
-    return Pen(style, link, start, _LINK_END + end if is_left_out else end)
+    return Pen(style, link, _edited(text, (_PEN_START, 0, 0, b"")), _edited(text, (_PEN_END, 0, 0, b"")))

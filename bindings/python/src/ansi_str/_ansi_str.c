@@ -13,7 +13,8 @@
 enum { LONG = 1 << 16 };
 
 /* kinds beside those of edits; SANITIZE takes any bytes */
-enum { TRUNCATE = ANSI_STR_EDIT_TRIM + 1, FIT, PAD, SANITIZE, LINK_AT, SLICE, EXPAND_TABS, REMOVE, REPLACE, LINK, UNLINK, STRIP, KINDS };
+enum { TRUNCATE = ANSI_STR_EDIT_TRIM + 1, FIT, PAD, SANITIZE, LINK_AT, SLICE, EXPAND_TABS, REMOVE, REPLACE, LINK, UNLINK, PEN_START, PEN_END,
+       STRIP, KINDS };
 enum { MARK = KINDS, REPLACE_ALL, RESTYLE };
 
 /* the questions about a text: those up to IS_SAFE are yes or no, those from FIND to FITTING return a position, the others columns */
@@ -125,6 +126,10 @@ static ansi_str_answer write_step(const Text *text, const Step *made, const Text
                                  room->bytes, room->size);
     case UNLINK:
         return ansi_str_raw_unlink(text->bytes, text->size, room->bytes, room->size);
+    case PEN_START:
+        return ansi_str_raw_pen_start(text->bytes, text->size, room->bytes, room->size);
+    case PEN_END:
+        return ansi_str_raw_pen_end(text->bytes, text->size, room->bytes, room->size);
     case MARK:
         return ansi_str_raw_mark(text->bytes, text->size, step->pattern, step->pattern_len, made->with.bytes, made->with.size,
                                  room->bytes, room->size);
