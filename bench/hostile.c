@@ -78,6 +78,13 @@ static size_t links(struct bytes t, size_t n, struct bytes p) {
     (void)p;
     return count_of(ansi_str_links(t.at, t.len, NULL, 0, NULL, 0));
 }
+static size_t pen(struct bytes t, size_t n, struct bytes p) {
+    ansi_str_pen open;
+    (void)n;
+    (void)p;
+    ansi_str_pen_after(t.at, t.len, &open);
+    return len_of(ansi_str_pen_start(t.at, t.len, NULL, 0)) + len_of(ansi_str_pen_end(t.at, t.len, NULL, 0));
+}
 static size_t matches(struct bytes t, size_t n, struct bytes p) {
     (void)n;
     return count_of(ansi_str_matches(t.at, t.len, p.at, p.len, NULL, 0));
@@ -155,7 +162,7 @@ static const struct call CALLS[] = {
     {"sanitize", sanitize, 0, 0, 0}, {"sanitize_bytes", sanitize_bytes, 0, 0, 0}, {"is_safe", is_safe, 0, 0, 0},
     {"remove to", remove_to, 1, 0, 0}, {"restyle to", restyle_to, 1, 0, 0}, {"matches", matches, 0, 1, 1}, {"mark", mark, 0, 1, 0},
     {"replace to", replace_to, 1, 1, 0}, {"insert", insert, 1, 1, 0}, {"link to", link_to, 1, 0, 0}, {"unlink", without_links, 0, 0, 0},
-    {"links", links, 0, 0, 1}, {"replace_all", replace_all, 0, 1, 0},
+    {"links", links, 0, 0, 1}, {"pen_after", pen, 0, 0, 0}, {"replace_all", replace_all, 0, 1, 0},
     {"find_from", find_from, 1, 1, 0}, {"find", find, 0, 1, 0}, {"split", split, 0, 1, 1}, {"part", part, 1, 1, 0},
 };
 enum { CALL_COUNT = sizeof CALLS / sizeof CALLS[0] };
@@ -205,6 +212,7 @@ static int is_bounded(struct bytes t, size_t position, struct bytes p) {
            is_short(t, slice(t, position, p), ANSI_STR_LONGEST_START_AND_CLOSE + ANSI_STR_LONGEST_LINK_END) &&
            is_short(t, sanitize(t, position, p), 3 * t.len + ANSI_STR_LONGEST_LINK_END + ANSI_STR_LONGEST_CLOSE) &&
            is_short(t, sanitize_bytes(t, position, p), 3 * t.len + ANSI_STR_LONGEST_LINK_END + ANSI_STR_LONGEST_CLOSE) &&
+           is_short(t, pen(t, position, p), ANSI_STR_LONGEST_START_AND_CLOSE + ANSI_STR_LONGEST_LINK_END) &&
            is_short(t, sides(t, position, p), ANSI_STR_LONGEST_START_AND_CLOSE * (runs + 1));
 }
 

@@ -123,6 +123,20 @@ static void walk_over_blocks(void) {
     expect("the others", left == 2);
 }
 
+/* What a line leaves open is closed after it, and opened again before the next. */
+static void carry_a_style(void) {
+    static const char LINE[] = "\x1b[31mred \x1b]8;;http://x\x1b\\link";
+    char buffer[128];
+    ansi_str_pen pen;
+    expect("what is open", ansi_str_pen_after(LINE, strlen(LINE), &pen).status == ANSI_STR_OK);
+    expect("the color", pen.style.foreground.kind == ANSI_STR_NAMED && pen.style.foreground.first == 31);
+    expect("the link", pen.link_len == 8 && memcmp(pen.link, "http://x", 8) == 0);
+    ansi_str_answer closed = ansi_str_pen_end(LINE, strlen(LINE), buffer, sizeof buffer);
+    expect("what closes both", wrote(closed, buffer, "\x1b]8;;\x1b\\\x1b[39m"));
+    ansi_str_answer opened = ansi_str_pen_start(LINE, strlen(LINE), buffer, sizeof buffer);
+    expect("what opens both", wrote(opened, buffer, "\x1b[31m\x1b]8;;http://x\x1b\\"));
+}
+
 static void do_edits(void) {
     char buffer[128];
     ansi_str_edit_step edits[3];
@@ -164,6 +178,7 @@ int main(void) {
     give_all_parts();
     give_all_blocks();
     walk_over_blocks();
+    carry_a_style();
     do_edits();
     fail();
     take_nothing();

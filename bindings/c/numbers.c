@@ -257,6 +257,11 @@ static void expect_lengths(void) {
     expect("a cut", (uint32_t)ansi_str_cut(text, len, 0, 3, buffer, sizeof buffer).len, len + ANSI_STR_LONGEST_CLOSE);
     expect("a part", (uint32_t)ansi_str_part(text, len, TEXT(","), 1, buffer, sizeof buffer).len,
            1 + ANSI_STR_LONGEST_START_AND_CLOSE);
+    EXPECT_NUMBER(ANSI_STR_LONGEST_LINK_END, 7);
+    len = (uint32_t)snprintf(text, sizeof text, "%s\x1b]8;;u\a", SGR);
+    expect("what opens a pen", (uint32_t)ansi_str_pen_start(text, len, buffer, sizeof buffer).len, ANSI_STR_LONGEST_START + 7);
+    expect("what closes a pen", (uint32_t)ansi_str_pen_end(text, len, buffer, sizeof buffer).len,
+           ANSI_STR_LONGEST_LINK_END + ANSI_STR_LONGEST_CLOSE);
 }
 
 int main(void) {
