@@ -6,12 +6,13 @@ use Rattle.std.specs.Str.{IsUtf8}
 use Rattle.std.proofs.lemmas.Bool.{cases_Bool, cond_both, and_parts, and_from}
 use Rattle.std.proofs.lemmas.Bool.Decides.{nat_tests}
 use Rattle.std.proofs.lemmas.Grind.{flat_map-append}
+use Rattle.std.proofs.lemmas.List.Folds.{list_all-append}
 use Rattle.std.proofs.lemmas.Str.{encodes-append, encodes-chars, encodes-IsAscii, scalars-chars}
 use Rattle.std.proofs.lemmas.Str.Ascii.{IsAscii-from_all}
 use Rattle.ansi_items.specs.Pieces.{Piece, Text, Sequence, LoneEscape, spelling, pieces_of}
-use Rattle.ansi_items.specs.Plain.{plain}
+use Rattle.ansi_items.specs.Plain.{plain, plain_of, plain_bytes}
 use Rattle.ansi_items.proofs.JoinLemmas.{spelled, pieces_of-spelled}
-use Rattle.ansi_items.proofs.PlainLemmas.{one_text}
+use Rattle.ansi_items.proofs.PlainLemmas.{one_text, plain_of-one_text}
 use Rattle.ansi_style.specs.Rendition.{plain_style, known}
 use Rattle.ansi_style.specs.Sgr.{apply}
 use Rattle.ansi_style.proofs.SpelledLemmas.{residue-spelled}
@@ -22,6 +23,7 @@ use Rattle.ansi_safe.specs.Cells.{cell}
 use Rattle.ansi_safe.specs.Links.{link_after}
 use Rattle.ansi_safe.specs.Safe.{is_printing, is_allowed, all_allowed}
 use Rattle.ansi_safe.proofs.AllowedLemmas.{all_allowed-append}
+use Rattle.ansi_safe.proofs.CellLemmas.{plain_of-merged}
 use Rattle.ansi_safe.proofs.LinkLemmas.{link_through, link_of-pieces}
 use Rattle.ansi_safe.proofs.SafeLemmas.{AreGood, AreGood-append, good_stand, good_are_safe, good_text, spelled-one_text}
 use Rattle.ansi_columns.specs.Columns.{columns}
@@ -187,3 +189,37 @@ safe-expanded stop t is =
             ∙ through-expanded link_after [] stop [] ps ∙ sym (link_of-pieces ps) ∙ is.closed.link;
       };
     })
+
+-- and its plain bytes pass what the plain bytes did, if a blank does
+
+module _ (test : ℕ → Bool) (stop : ℕ) (blank : test 32 ≡ true) where
+  blanks-pass : (n : ℕ) → list_all test (blanks n) ≡ true
+  blanks-pass zero = refl
+  blanks-pass (suc n) = and_from _ _ blank (blanks-pass n)
+
+  run-pass : (x w : List ℕ) → list_all test w ≡ true → list_all test (run_expanded stop x w) ≡ true
+  run-pass x [] all = refl
+  run-pass x (b ∷ w) all =
+      let both = and_parts (test b) (list_all test w) all in
+      let more = run_expanded stop (since_stop x b) w in
+      let n = to_next stop (columns (plain (cell x))) in
+      let rest = run-pass (since_stop x b) w both.1 in
+      cond_both (b == 9) (blanks n) (b ∷ []) (λ v. list_all test (v ++ more) ≡ true) (λ tab. list_all-append test (blanks n) more ∙ and_from _ _ (blanks-pass n) rest) (λ other. and_from _ _ both.0 rest)
+
+  pieces-pass : (x : List ℕ) (ps : List Piece) → list_all test (plain_of ps) ≡ true → list_all test (plain_of (expanded_pieces stop x ps)) ≡ true
+  pieces-pass x [] all = refl
+  pieces-pass x (Text w ∷ ps) all =
+      let both = and_parts (list_all test w) (list_all test (plain_of ps)) (sym (list_all-append test w (plain_of ps)) ∙ all) in
+      let v = run_expanded stop x w in
+      let qs = expanded_pieces stop (fold since_stop x w) ps in
+      ap (list_all test) (flat_map-append plain_bytes (one_text v) qs ∙ ap (λ u. u ++ plain_of qs) (plain_of-one_text v))
+      ∙ list_all-append test v (plain_of qs) ∙ and_from _ _ (run-pass x w both.0) (pieces-pass (fold since_stop x w) ps both.1)
+  pieces-pass x (Sequence w ∷ ps) all = pieces-pass x ps all
+  pieces-pass x (LoneEscape ∷ ps) all = pieces-pass x ps all
+
+pub all-expanded : (test : ℕ → Bool) (stop : ℕ) (t : List ℕ) → test 32 ≡ true → IsSafeText t → list_all test (plain t) ≡ true → list_all test (plain (expanded stop t)) ≡ true
+all-expanded test stop t blank is all =
+    let qs = expanded_pieces stop [] (pieces_of t) in
+    let stand = good_stand Keep qs (expanded-good stop [] (pieces_of t) (safe_are_good t is.utf8 is.safe)) in
+    let text : plain (spelled qs) ≡ plain_of qs = ap plain_of (pieces_of-spelled qs stand) ∙ plain_of-merged qs in
+    subst (λ u. list_all test (plain u) ≡ true) (spelled-expanded stop [] (pieces_of t)) (ap (list_all test) text ∙ pieces-pass test stop blank [] (pieces_of t) all)

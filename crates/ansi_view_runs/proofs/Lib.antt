@@ -9,3 +9,7 @@ pub mod ExpandedLemmas
 pub mod ChangeLemmas
 pub mod AskedLemmas
 pub mod SafeViewLemmas
+pub mod RowLemmas
+pub mod LineFeedLemmas
+pub mod NoLinkLemmas
+pub mod PromiseLemmas

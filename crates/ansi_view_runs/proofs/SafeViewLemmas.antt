@@ -75,7 +75,7 @@ invalid-some bs some =
     let after_one : P (error_len_after_one bs) = either P (nat_lt (length bs) 2) None _ some (either P second (error_len_after_two bs) (Some 1) after_two one) in
     either P (length bs == 0) None (error_len_of_some bs) some (either P (is_in_range 0xC2 0xF4 x) (error_len_after_one bs) (Some 1) after_one one)
 
-rest-shorter : (bs : List ℕ) → utf8_valid_len bs < length bs → length (after_first_chunk bs) < length bs
+pub rest-shorter : (bs : List ℕ) → utf8_valid_len bs < length bs → length (after_first_chunk bs) < length bs
 rest-shorter bs short =
     let n = utf8_valid_len bs in
     let invalid = invalid-some (drop n bs) (omega (arith, length-drop n bs, short)) in
@@ -85,10 +85,14 @@ replacement-utf8 : IsUtf8 replacement_bytes
 unfolding lib.Utf8.encode
 replacement-utf8 = (0xFFFD ∷ [], (refl, refl))
 
+whole-utf8 : (bs : List ℕ) → length bs ≤ utf8_valid_len bs → IsUtf8 bs
+whole-utf8 bs whole = subst IsUtf8 (take_all (utf8_valid_len bs) bs whole) (valid-utf8 bs)
+
+pub whole-lossy : (bs : List ℕ) → length bs ≤ utf8_valid_len bs → utf8_lossy bs ≡ bs
+whole-lossy bs whole = utf8_lossy-IsUtf8 bs (whole-utf8 bs whole)
+
 lossy-whole : (bs : List ℕ) → length bs ≤ utf8_valid_len bs → IsUtf8 (utf8_lossy bs)
-lossy-whole bs whole =
-    let utf8 : IsUtf8 bs = subst IsUtf8 (take_all (utf8_valid_len bs) bs whole) (valid-utf8 bs) in
-    subst IsUtf8 (sym (utf8_lossy-IsUtf8 bs utf8)) utf8
+lossy-whole bs whole = subst IsUtf8 (sym (whole-lossy bs whole)) (whole-utf8 bs whole)
 
 lossy-cut : (bs : List ℕ) → utf8_valid_len bs < length bs → IsUtf8 (utf8_lossy (after_first_chunk bs)) → IsUtf8 (utf8_lossy bs)
 lossy-cut bs short more =
@@ -193,10 +197,10 @@ all_become-utf8 policy t (p ∷ ps) are utf8 =
 cleaned-utf8 : (policy : Policy) (t : List ℕ) → IsUtf8 t → IsUtf8 (cleaned policy t)
 cleaned-utf8 policy t utf8 = all_become-utf8 policy t (pieces_of t) (pieces_are t) utf8
 
-body-utf8 : (view : View) (opening text : List ℕ) → IsUtf8 opening → IsUtf8 (body view opening text)
+pub body-utf8 : (view : View) (opening text : List ℕ) → IsUtf8 opening → IsUtf8 (body view opening text)
 body-utf8 view opening text utf8 = IsUtf8-append opening (decoded view text) utf8 (decoded-utf8 view text)
 
-opening_after-utf8 : (view : View) (opening : List ℕ) (line : Line) → IsUtf8 opening → IsUtf8 (opening_after view opening line)
+pub opening_after-utf8 : (view : View) (opening : List ℕ) (line : Line) → IsUtf8 opening → IsUtf8 (opening_after view opening line)
 opening_after-utf8 view opening line utf8 = by (length line.text == 0)
   where
     by : (b : Bool) → IsUtf8 (if b then opening else opening_of (cleaned view.policy (body view opening line.text)))
@@ -326,7 +330,7 @@ shown-utf8 view opening line utf8 =
     let end = IsUtf8-append (link_end (link_of (marks u))) (close (style_after u)) (link_end-utf8 (link_of (marks u))) (close-utf8 (style_after u)) in
     either IsUtf8 (length line.text == 0) [] (sanitized view.policy t) IsUtf8-nil (IsUtf8-append u (ending u) clean end)
 
-shown-text : (view : View) (opening : List ℕ) (line : Line) → IsUtf8 opening → IsSafeText (shown view opening line)
+pub shown-text : (view : View) (opening : List ℕ) (line : Line) → IsUtf8 opening → IsSafeText (shown view opening line)
 shown-text view opening line utf8 = record {
   utf8 = shown-utf8 view opening line utf8;
   safe = kept-all view.policy.links (pieces_of (shown view opening line)) (shown-safe view opening line utf8);

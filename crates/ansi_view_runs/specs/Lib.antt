@@ -2,6 +2,7 @@ pub mod SafeTexts
 pub mod Lines
 pub mod Edits
 pub mod Views
+pub mod Promise
 pub mod LineViews
 pub mod Jobs
 pub mod Words

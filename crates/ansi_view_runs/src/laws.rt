@@ -10,9 +10,19 @@ ghost use Rattle.ansi_view_runs.specs.declared.view.View.{View};
 ghost use Rattle.ansi_view_runs.specs.Edits.{Change, HasUtf8Tail, is_expansion};
 ghost use Rattle.ansi_view_runs.specs.Edits.{changed, changed_in_turn};
 ghost use Rattle.ansi_view_runs.specs.Lines.{Line};
+ghost use Rattle.ansi_view_runs.specs.Promise.{IsViewed};
 ghost use Rattle.ansi_view_runs.specs.SafeTexts.{IsSafeText};
 ghost use Rattle.ansi_view_runs.specs.Views.{Work, shown, view_of};
 ghost use Rattle.ansi_view_runs.specs.Words.{view_asked};
+
+/// Whatever the words ask for and whatever bytes come in, what goes out is UTF-8 and safe, each line
+/// closed and on one line, and it shows what the words ask for of what the line shows.
+pub fn view_keeps_its_promise()
+    ensures asked { (words : List (List ℕ)) (input : List ℕ) → All IsUtf8 words →
+        IsViewed (view_asked words) input (view_of (view_asked words) input) }
+    ensures of_work { (work : Work) (input : List ℕ) → All HasUtf8Tail work.changes →
+        IsViewed work input (view_of work input) }
+{}
 
 /// Whatever the words ask for and whatever bytes come in, what the input becomes is UTF-8 and safe,
 /// and no style and no link is open at its end. So it is for any edits whose tails are UTF-8. Without

@@ -1,0 +1,181 @@
+-- What changes make of a text shows what they make of its row.
+use Rattle.std.proofs.Common.{◌≡◌, ℕ, ◌==◌, Bool, true, false, not, ◌&&◌, ◌||◌, List, [], ◌∷◌, ◌++◌, All, map, flat_map, fold, length, refl, sym, ◌∙◌, ap, ap₂, subst, arith, append-nil, IsTrue}
+use Rattle.std.specs.List.{AllByRecursion, list_all, list_any}
+use Rattle.std.specs.Prelude.{chars}
+use Rattle.std.specs.Str.{IsUtf8, byte}
+use Rattle.std.proofs.lemmas.Bool.{and_from, and_parts, or_from}
+use Rattle.std.proofs.lemmas.Bool.Decides.{nat_tests}
+use Rattle.std.proofs.lemmas.Grind.{flat_map-append}
+use Rattle.std.proofs.lemmas.List.{map-append}
+use Rattle.std.proofs.lemmas.List.Elements.{All-from_recursion, recursion_from_All}
+use Rattle.std.proofs.lemmas.List.Folds.{list_all-append}
+use Rattle.ansi_items.specs.Pieces.{Piece, Text, Sequence, LoneEscape, pieces_of}
+use Rattle.ansi_items.specs.Plain.{plain, plain_of, plain_bytes}
+use Rattle.ansi_safe.specs.Cells.{cell, paragraph, placed, stays_in, piece_stays}
+use Rattle.ansi_safe.specs.Safe.{all_allowed}
+use Rattle.ansi_safe.proofs.CellLemmas.{placed-stays, placed_stays}
+use Rattle.ansi_columns.specs.Edits as columns
+use Rattle.ansi_columns.specs.Lines as wrap
+use Rattle.ansi_columns.specs.Rows.{Row, row, cell_row, row_bytes, row_range, row_screen, line_rows}
+use Rattle.ansi_columns.specs.Screens.{screen}
+use Rattle.ansi_columns.specs.Tabs.{piece_has_tab, expanded}
+use Rattle.ansi_columns.specs.Wrapped.{CarriedPart, wrapped}
+use Rattle.ansi_columns.proofs.CleanLineLemmas.{CleanLine, clean-wrapped}
+use Rattle.ansi_columns.proofs.EditLemmas.{IsEditing, clean-stays, shown-changed, editing-begun, editing-step}
+use Rattle.ansi_columns.proofs.IndentLawLemmas.{ShutLine, wrapped_are_shut}
+use Rattle.ansi_columns.proofs.OneLineLemmas.{clean-one_line, safe-paragraph}
+use Rattle.ansi_columns.proofs.RowLemmas.{bytes-row, screen-row, row-lines}
+use Rattle.ansi_columns.proofs.SequenceLemmas.{good-utf8}
+use Rattle.ansi_columns.proofs.TabLemmas.{expanded-no_tab}
+use Rattle.ansi_columns.proofs.TailLemmas.{IsShown}
+use Rattle.ansi_view_runs.specs.Edits.{Change, OnColumns, Wrapped, HasUtf8Tail, is_expansion, changed, changed_in_turn}
+use Rattle.ansi_view_runs.specs.Promise.{changed_rows, rows_in_turn, shown_rows}
+
+-- ---- a text of a cell, closed, is its own cell and paragraph, and has no TAB
+
+utf8-shown : (t : List ℕ) → IsShown t → IsUtf8 t
+utf8-shown t shown = subst IsUtf8 shown.clean.spell (good-utf8 shown.clean.pieces shown.clean.good)
+
+cell-shown : (t : List ℕ) → IsShown t → cell t ≡ t
+cell-shown t shown = clean-stays t (utf8-shown t shown) shown.clean
+
+-- what stays in a place stays in another one, in which each character stays that stays in the first
+module _ (cell_place paragraph_place : _) (further : (c : ℕ) → stays_in cell_place c ≡ true → stays_in paragraph_place c ≡ true) where
+  all_stay-further : (cs : List ℕ) → list_all (stays_in cell_place) cs ≡ true → list_all (stays_in paragraph_place) cs ≡ true
+  all_stay-further [] all = refl
+  all_stay-further (c ∷ cs) all =
+      let both = and_parts (stays_in cell_place c) (list_all (stays_in cell_place) cs) all in
+      and_from _ _ (further c both.0) (all_stay-further cs both.1)
+
+  piece-further : (p : Piece) → piece_stays cell_place p ≡ true → piece_stays paragraph_place p ≡ true
+  piece-further (Text w) is =
+      let both = and_parts (all_allowed (chars w)) (list_all (stays_in cell_place) (chars w)) is in
+      and_from _ _ both.0 (all_stay-further (chars w) both.1)
+  piece-further (Sequence w) is = is
+  piece-further LoneEscape is = is
+
+  pieces-further : (ps : List Piece) → list_all (piece_stays cell_place) ps ≡ true → list_all (piece_stays paragraph_place) ps ≡ true
+  pieces-further [] all = refl
+  pieces-further (p ∷ ps) all =
+      let both = and_parts (piece_stays cell_place p) (list_all (piece_stays cell_place) ps) all in
+      and_from _ _ (piece-further p both.0) (pieces-further ps both.1)
+
+stays-further : (c : ℕ) → not (c == byte "\t" || (c == byte "\n" || c == byte "\r")) ≡ true → not (c == byte "\t") ≡ true
+stays-further c is = grind (arith, nat_tests)
+
+stays-also : (first second : _) (t : List ℕ) → ((c : ℕ) → stays_in first c ≡ true → stays_in second c ≡ true) → IsUtf8 t → placed first t ≡ t → placed second t ≡ t
+stays-also first second t further utf8 stays = placed-stays second t utf8 (pieces-further first second further (pieces_of t) (placed_stays first t utf8 stays))
+
+paragraph-shown : (t : List ℕ) → IsShown t → paragraph t ≡ t
+paragraph-shown t shown =
+    let utf8 = utf8-shown t shown in
+    let cell_stays = cell-shown t shown in
+    search (stays-also, stays-further, utf8, cell_stays)
+
+abbrev on_line : ℕ → Bool
+on_line b = not (b == byte "\t" || b == byte "\n" || b == byte "\r")
+
+no_tab : (b : ℕ) → on_line b ≡ true → (b == byte "\t") ≡ false
+no_tab b is = grind (arith, nat_tests)
+
+none-in : (w : List ℕ) → list_all on_line w ≡ true → list_any (λ b. b == byte "\t") w ≡ false
+none-in [] all = refl
+none-in (b ∷ w) all = (let both = and_parts (on_line b) (list_all on_line w) all in or_from _ _ (no_tab b both.0) (none-in w both.1))
+
+pieces-without_tab : (ps : List Piece) → list_all on_line (plain_of ps) ≡ true → list_any piece_has_tab ps ≡ false
+pieces-without_tab [] all = refl
+pieces-without_tab (p ∷ ps) all =
+    let both = and_parts (list_all on_line (plain_bytes p)) (list_all on_line (plain_of ps)) (sym (list_all-append on_line (plain_bytes p) (plain_of ps)) ∙ all) in
+    or_from _ _ (none-in (plain_bytes p) both.0) (pieces-without_tab ps both.1)
+
+expanded-shown : (stop : ℕ) (t : List ℕ) → IsShown t → expanded stop t ≡ t
+expanded-shown stop t shown = expanded-no_tab stop t (pieces-without_tab (pieces_of t) (clean-one_line shown.clean))
+
+-- ---- a change of a text by columns shows what it makes of the row of its cell, and a wrap of the row of its paragraph
+
+row-of_cell : (t : List ℕ) → IsShown t → cell_row t ≡ row t
+row-of_cell t shown = ap row (cell-shown t shown)
+
+row-changed : (change : columns.Change) (t : List ℕ) → columns.HasUtf8Tail change → IsUtf8 t → columns.is_expansion change ≡ false → row (columns.changed change t) ≡ columns.changed_row change (cell_row t)
+row-changed change t tail utf8 other =
+    let step = editing-step (change ∷ []) t [] t utf8 change tail (editing-begun (change ∷ []) t) in
+    sym (row-of_cell (columns.changed change t) (shown-changed t utf8 change tail other)) ∙ step.shows ∙ by change other
+  where
+    by : (change : columns.Change) → columns.is_expansion change ≡ false → columns.edited_row (change ∷ []) t ≡ columns.changed_row change (cell_row t)
+    by (columns.Expanded stop) other = absurd (cc other)
+    by (columns.Sliced start end) other = refl
+    by (columns.Truncated side width tail) other = refl
+    by (columns.Padded width alignment) other = refl
+    by (columns.Fitted width alignment tail) other = refl
+
+abbrev pub AreShown : List (List ℕ) → Type 0
+AreShown ts = AllByRecursion IsShown ts
+
+bytes-lines : (ls : List CarriedPart) → AllByRecursion CleanLine ls → AllByRecursion ShutLine ls → AreShown (map (λ (l : CarriedPart). l.bytes) ls)
+bytes-lines [] clean shut = tt
+bytes-lines (l ∷ ls) clean shut = (record { clean = clean.0; shut = shut.0 }, bytes-lines ls clean.1 shut.1)
+
+shown-wrapped : (width : ℕ) (t : List ℕ) → IsUtf8 t → AreShown (changed (Wrapped width) t)
+shown-wrapped width t utf8 =
+    let ls = wrapped t width in
+    bytes-lines ls (recursion_from_All CleanLine ls (clean-wrapped t width utf8)) (recursion_from_All ShutLine ls (wrapped_are_shut t width (safe-paragraph t utf8)))
+
+rows-lines : (ls : List CarriedPart) → map row (map (λ (l : CarriedPart). l.bytes) ls) ≡ map (λ (l : CarriedPart). row l.bytes) ls
+rows-lines [] = refl
+rows-lines (l ∷ ls) = ap (λ rs. row l.bytes ∷ rs) (rows-lines ls)
+
+rows-wrapped : (width : ℕ) (t : List ℕ) → IsUtf8 t → map row (changed (Wrapped width) t) ≡ changed_rows (Wrapped width) (row (paragraph t))
+rows-wrapped width t utf8 =
+    rows-lines (wrapped t width) ∙ row-lines t width (safe-paragraph t utf8)
+    ∙ ap (λ x. map (λ (i : ℕ × ℕ). row_range i.0 i.1 (row (paragraph t))) (wrap.lines width x)) (sym (bytes-row (paragraph t)))
+
+-- ---- so do changes in turn
+
+pub record AreMade (ts : List (List ℕ)) (rs : List Row) : Type 0 where
+  pub shown : AreShown ts
+  pub rows : map row ts ≡ rs
+
+pub made-columns : (change : columns.Change) (t : List ℕ) → columns.HasUtf8Tail change → IsUtf8 t → columns.is_expansion change ≡ false → AreMade (changed (OnColumns change) t) (changed_rows (OnColumns change) (cell_row t))
+made-columns change t tail utf8 other = record { shown = (shown-changed t utf8 change tail other, tt); rows = ap (λ r. r ∷ []) (row-changed change t tail utf8 other) }
+
+pub made-wrapped : (width : ℕ) (t : List ℕ) → IsUtf8 t → AreMade (changed (Wrapped width) t) (changed_rows (Wrapped width) (row (paragraph t)))
+made-wrapped width t utf8 = record { shown = shown-wrapped width t utf8; rows = rows-wrapped width t utf8 }
+
+-- of a text of a cell, closed
+made-other : (change : columns.Change) (t : List ℕ) → columns.HasUtf8Tail change → IsShown t → columns.is_expansion change ≡ false → AreMade (changed (OnColumns change) t) (changed_rows (OnColumns change) (row t))
+made-other change t tail shown other =
+    subst (λ r. AreMade (changed (OnColumns change) t) (changed_rows (OnColumns change) r)) (row-of_cell t shown) (made-columns change t tail (utf8-shown t shown) other)
+
+made-again : (change : Change) (t : List ℕ) → HasUtf8Tail change → IsShown t → AreMade (changed change t) (changed_rows change (row t))
+made-again (Wrapped width) t tail shown = subst (λ p. AreMade (changed (Wrapped width) t) (changed_rows (Wrapped width) (row p))) (paragraph-shown t shown) (made-wrapped width t (utf8-shown t shown))
+made-again (OnColumns (columns.Expanded stop)) t tail shown =
+    (let same = expanded-shown stop t shown in record { shown = (subst IsShown (sym same) shown, tt); rows = ap (λ u. row u ∷ []) same })
+made-again (OnColumns (columns.Sliced start end)) t tail shown = made-other (columns.Sliced start end) t tail shown refl
+made-again (OnColumns (columns.Truncated side width cut)) t tail shown = made-other (columns.Truncated side width cut) t tail shown refl
+made-again (OnColumns (columns.Padded width alignment)) t tail shown = made-other (columns.Padded width alignment) t tail shown refl
+made-again (OnColumns (columns.Fitted width alignment cut)) t tail shown = made-other (columns.Fitted width alignment cut) t tail shown refl
+
+shown-append : (ts us : List (List ℕ)) → AreShown ts → AreShown us → AreShown (ts ++ us)
+shown-append [] us first second = second
+shown-append (t ∷ ts) us first second = (first.0, shown-append ts us first.1 second)
+
+made-each : (change : Change) (ts : List (List ℕ)) → HasUtf8Tail change → AreShown ts → AreMade (flat_map (changed change) ts) (flat_map (changed_rows change) (map row ts))
+made-each change [] tail are = record { shown = tt; rows = refl }
+made-each change (t ∷ ts) tail are =
+    let here = made-again change t tail are.0 in
+    let more = made-each change ts tail are.1 in
+    record {
+      shown = shown-append (changed change t) (flat_map (changed change) ts) here.shown more.shown;
+      rows = map-append row (changed change t) (flat_map (changed change) ts) ∙ ap₂ ◌++◌ here.rows more.rows;
+    }
+
+pub made-fold : (changes : List Change) (ts : List (List ℕ)) (rs : List Row) → AllByRecursion HasUtf8Tail changes → AreMade ts rs
+    → AreMade (fold (λ ts change. flat_map (changed change) ts) ts changes) (fold (λ rs change. flat_map (changed_rows change) rs) rs changes)
+made-fold [] ts rs tails are = are
+made-fold (change ∷ changes) ts rs tails are =
+    let each = made-each change ts tails.0 are.shown in
+    made-fold changes (flat_map (changed change) ts) (flat_map (changed_rows change) rs) tails.1 (record { shown = each.shown; rows = each.rows ∙ ap (flat_map (changed_rows change)) are.rows })
+
+pub screens-rows : (ts : List (List ℕ)) → map screen ts ≡ map row_screen (map row ts)
+screens-rows [] = refl
+screens-rows (t ∷ ts) = ap₂ (λ c cs. c ∷ cs) (screen-row t) (screens-rows ts)
