@@ -3,12 +3,13 @@
 use crate::style::Style;
 use crate::text::{Item, Kind, Text};
 use crate::{compare, Tally};
-use ansi_str::columns::{Alignment, AnsiColumns, Side, Truncation};
+use ansi_str::columns::{Alignment, AnsiColumns, Side, Truncation, Wrap};
+use std::iter;
 use std::ops::Range;
 
 /// What UAX #29 says of a character, as far as the texts of these tests have it.
 #[derive(Clone, Copy, PartialEq, Eq)]
-enum Class {
+pub(crate) enum Class {
     Control,
     /// A control that is shown, in no column.
     ZeroWidthSpace,
@@ -22,40 +23,62 @@ enum Class {
     Other,
 }
 
-fn class(character: char) -> Class {
-    match character {
-        '\0'..='\x1f' | '\x7f'..='\u{9f}' | '\u{202e}' => Class::Control,
-        '\u{200b}' => Class::ZeroWidthSpace,
-        '\u{301}' => Class::Extend,
-        '\u{200d}' => Class::Joiner,
-        '\u{1f469}' => Class::Pictograph,
-        '\u{1f1e6}'..='\u{1f1ff}' => Class::Regional,
-        '\u{1112}' => Class::Leading,
-        '\u{1161}' => Class::Vowel,
-        '\u{11ab}' => Class::Trailing,
-        _ => Class::Other,
+impl Class {
+    pub(crate) fn of(character: char) -> Class {
+        match character {
+            '\0'..='\x1f' | '\x7f'..='\u{9f}' | '\u{202e}' => Class::Control,
+            '\u{200b}' => Class::ZeroWidthSpace,
+            '\u{301}' => Class::Extend,
+            '\u{200d}' => Class::Joiner,
+            '\u{1f469}' => Class::Pictograph,
+            '\u{1f1e6}'..='\u{1f1ff}' => Class::Regional,
+            '\u{1112}' => Class::Leading,
+            '\u{1161}' => Class::Vowel,
+            '\u{11ab}' => Class::Trailing,
+            _ => Class::Other,
+        }
+    }
+}
+
+/// Whether jamo are one syllable: leading ones, vowels and trailing ones, which are beside leading ones only if a vowel is between.
+fn is_syllable(jamo: &[Class]) -> bool {
+    let places = [Class::Leading, Class::Vowel, Class::Trailing];
+    let place = |class: &Class| places.iter().position(|it| it == class);
+    let is_next = |pair: &[Class]| match (place(&pair[0]), place(&pair[1])) {
+        (Some(first), Some(second)) => second == first || second == first + 1,
+        _ => false,
+    };
+    jamo.windows(2).all(is_next)
+}
+
+/// Whether what is between two pictographs joins them: a joiner, after marks if there are any.
+fn joins(between: &[Class]) -> bool {
+    match between {
+        [marks @ .., Class::Joiner] => marks.iter().all(|class| *class == Class::Extend),
+        _ => false,
     }
 }
 
 /// Whether the text is one cluster: the regular expression of UAX #29, Table 1b.
 fn is_cluster(text: &str) -> bool {
-    let classes: Vec<Class> = text.chars().map(class).collect();
+    let classes: Vec<Class> = text.chars().map(Class::of).collect();
     let is_extending = |class: &Class| matches!(class, Class::Extend | Class::Joiner);
-    let joins = |pair: &[Class]| pair == [Class::Joiner, Class::Pictograph];
     let core = classes.iter().rposition(|class| !is_extending(class));
     match &classes[..core.map_or(0, |last| last + 1)] {
         [] => !classes.is_empty(),
         [Class::Control, Class::Control] => text == "\r\n",
         [Class::Control | Class::ZeroWidthSpace] => classes.len() == 1,
         [_] | [Class::Regional, Class::Regional] => true,
-        [Class::Leading, Class::Vowel] | [Class::Leading, Class::Vowel, Class::Trailing] => true,
-        [Class::Pictograph, rest @ ..] => rest.chunks(2).all(joins),
+        jamo @ [Class::Leading | Class::Vowel | Class::Trailing, ..] => is_syllable(jamo),
+        [Class::Pictograph, joined @ .., Class::Pictograph] => {
+            joined.split(|class| *class == Class::Pictograph).all(joins)
+        }
         _ => false,
     }
 }
 
-/// The clusters of a text: each is the longest that begins there.
-fn clusters(text: &str) -> Vec<&str> {
+/// The clusters of a text: each is the longest that begins there. What begins a cluster is one.
+pub(crate) fn clusters(text: &str) -> Vec<&str> {
     let mut clusters = Vec::new();
     let mut rest = text;
     while !rest.is_empty() {
@@ -63,7 +86,7 @@ fn clusters(text: &str) -> Vec<&str> {
             .char_indices()
             .map(|(start, char)| start + char.len_utf8());
         let end = ends
-            .filter(|end| is_cluster(&rest[..*end]))
+            .take_while(|end| is_cluster(&rest[..*end]))
             .last()
             .expect("a cluster");
         let (cluster, after) = rest.split_at(end);
@@ -75,22 +98,22 @@ fn clusters(text: &str) -> Vec<&str> {
 
 /// The columns of a cluster (UAX #11): pictographs that are joined have those of one.
 fn cluster_width(cluster: &str) -> usize {
-    let width = |character: char| match class(character) {
+    let width = |character: char| match Class::of(character) {
         Class::ZeroWidthSpace => 0,
         // (the bidirectional controls are default ignorable)
         _ if matches!(character, '\u{202a}'..='\u{202e}' | '\u{2066}'..='\u{2069}') => 0,
         Class::Extend | Class::Joiner | Class::Vowel | Class::Trailing => 0,
         Class::Pictograph | Class::Leading => 2,
-        _ if character == '日' => 2,
+        _ if matches!(character, '日' | '本') => 2,
         _ => 1,
     };
-    if cluster.contains('\u{200d}') {
+    if cluster.starts_with('\u{1f469}') {
         return 2;
     }
     cluster.chars().map(width).sum()
 }
 
-fn width(text: &str) -> usize {
+pub(crate) fn width(text: &str) -> usize {
     clusters(text).into_iter().map(cluster_width).sum()
 }
 
@@ -113,18 +136,19 @@ fn command(sequence: &str) -> Option<&str> {
 }
 
 /// The address of a link sequence, which is empty in one that ends a link.
-fn address(sequence: &str) -> Option<&str> {
+pub(crate) fn address(sequence: &str) -> Option<&str> {
     let (_parameters, address) = command(sequence)?.strip_prefix("8;")?.split_once(';')?;
     Some(address)
 }
 
+/// Whether a control string has printing ASCII alone.
+pub(crate) fn is_clean(sequence: &str) -> bool {
+    let is_printing = |byte| matches!(byte, 0x20..=0x7e);
+    command(sequence).map_or(false, |it| it.bytes().all(is_printing))
+}
+
 /// A text with its runs as a place shows them. Of its sequences select graphic renditions and clean links stay.
 fn placed(spelled: &str, shown: impl Fn(&str) -> String) -> String {
-    let is_clean = |sequence: &str| {
-        command(sequence).map_or(false, |it| {
-            it.bytes().all(|byte| matches!(byte, 0x20..=0x7e))
-        })
-    };
     let items = Text::new(spelled).items;
     let piece = |item: &Item| match item.kind {
         Kind::Run => shown(item.spelled),
@@ -140,7 +164,7 @@ fn placed(spelled: &str, shown: impl Fn(&str) -> String) -> String {
 /// The printing characters of a run.
 fn printing(run: &str) -> String {
     run.chars()
-        .filter(|it| class(*it) != Class::Control)
+        .filter(|it| Class::of(*it) != Class::Control)
         .collect()
 }
 
@@ -152,7 +176,7 @@ fn cell(spelled: &str) -> String {
 }
 
 /// The text as a paragraph shows it, with its line ends.
-fn paragraph(spelled: &str) -> String {
+pub(crate) fn paragraph(spelled: &str) -> String {
     let line = |line: &str| printing(&line.replace('\t', " "));
     let unix = |run: &str| -> Vec<String> { run.split('\n').map(line).collect() };
     placed(spelled, |run| {
@@ -189,13 +213,36 @@ fn link_end(link: &str) -> &'static str {
     }
 }
 
+/// The text of a cell, and what closes what it leaves open. So a tail and an indent are written.
+fn closed_cell(spelled: &str) -> String {
+    let cell = cell(spelled);
+    let closing = closing(&Text::new(&cell), usize::MAX);
+    cell + &closing
+}
+
+fn spelled_width(cell: &str) -> usize {
+    width(&Text::new(cell).plain)
+}
+
+/// The tail as it is written, and its columns, if it isn't too wide.
+fn fitting_tail(tail: &str, most: usize) -> (String, usize) {
+    let tail = closed_cell(tail);
+    let columns = spelled_width(&tail);
+    if columns > most {
+        return (String::new(), 0);
+    }
+    (tail, columns)
+}
+
 fn truncated(spelled: &str, most: usize, tail: &str) -> String {
     let cell = cell(spelled);
     let text = Text::new(&cell);
-    let has_tail = width(&text.plain) > most && width(tail) <= most;
-    let tail = if has_tail { tail } else { "" };
-    let end = fitting(&text.plain, most - width(tail));
-    text.written(&(0..end), |mark| mark.place <= end) + &closing(&text, end) + tail
+    let (tail, room) = match width(&text.plain) > most {
+        true => fitting_tail(tail, most),
+        false => (String::new(), 0),
+    };
+    let end = fitting(&text.plain, most - room);
+    text.written(&(0..end), |mark| mark.place <= end) + &closing(&text, end) + &tail
 }
 
 fn padded(spelled: &str, least: usize, alignment: Alignment) -> String {
@@ -271,18 +318,18 @@ fn truncated_with(spelled: &str, to: &Truncation) -> String {
     if to.side == Side::End || all <= to.width {
         return truncated(spelled, to.width, to.tail);
     }
-    let tail = Some(to.tail).filter(|tail| width(tail) <= to.width);
-    let room = to.width - tail.map_or(0, width);
+    let (tail, columns) = fitting_tail(to.tail, to.width);
+    let room = to.width - columns;
     let last = match to.side {
         Side::Middle => room / 2,
         _ => room,
     };
     let front = sliced(spelled, 0, room - last);
-    front + tail.unwrap_or("") + &sliced(spelled, all - last, all)
+    front + &tail + &sliced(spelled, all - last, all)
 }
 
 /// The text with each TAB expanded: one blank or more, until its line has a multiple of `stop` columns.
-fn expanded(spelled: &str, stop: usize) -> String {
+pub(crate) fn expanded(spelled: &str, stop: usize) -> String {
     let (mut out, mut line) = (String::new(), String::new());
     for item in Text::new(spelled).items {
         if item.kind != Kind::Run {
@@ -334,14 +381,15 @@ const EXPANDED_PIECES: [&str; 12] = [
     "\x1b[1m", "\x1b]0;t\x07", "\x1b", "\t", "\n", "\r", "\x0f", "a", "日", "\u{301}", "\u{200b}", "\u{1f1e6}",
 ];
 
-const ALIGNMENTS: [Alignment; 3] = [Alignment::Left, Alignment::Center, Alignment::Right];
+pub(crate) const ALIGNMENTS: [Alignment; 3] =
+    [Alignment::Left, Alignment::Center, Alignment::Right];
 
-const SIDES: [Side; 3] = [Side::End, Side::Start, Side::Middle];
+pub(crate) const SIDES: [Side; 3] = [Side::End, Side::Start, Side::Middle];
 
 /// Compares a text truncated and padded at each width.
 fn expect_shown(tally: &mut Tally, spelled: &str) {
     for columns in 0..6 {
-        for tail in ["", "…"] {
+        for tail in ["", "…", "\x1b[2m~\t\x1b[2J"] {
             let want = truncated(spelled, columns, tail);
             tally.expect(
                 &*spelled.ansi_truncate(columns, tail),
@@ -363,7 +411,7 @@ fn expect_shown(tally: &mut Tally, spelled: &str) {
 /// Compares a text fitted to each width, and truncated to it at each side.
 fn expect_fitted(tally: &mut Tally, spelled: &str) {
     for columns in 0..6 {
-        for tail in ["", "…", "..."] {
+        for tail in ["", "…", "...", "\u{301}\x1b]8;;u\x07~\x07"] {
             let cut = truncated(spelled, columns, tail);
             for alignment in ALIGNMENTS {
                 tally.expect(
@@ -489,7 +537,7 @@ fn paragraph_lines(paragraph: &str, most: usize) -> Vec<Range<usize>> {
 }
 
 /// The lines of a text: a line end separates paragraphs. A width of 0 counts as 1.
-fn lines(text: &str, most: usize) -> Vec<Range<usize>> {
+pub(crate) fn lines(text: &str, most: usize) -> Vec<Range<usize>> {
     let mut start = 0;
     let mut lines = Vec::new();
     for line in text.split('\n') {
@@ -538,7 +586,15 @@ const UNCLEAN_PIECES: [&str; 14] = [
     "a", " b", "\t", "\r", "\n", "\x07", "\u{202e}",
 ];
 
-/// Compares a text wrapped at each width.
+/// Indents: the first, and the one of the later lines.
+const INDENTS: [(&str, &str); 4] = [
+    ("* ", "  "),
+    ("", "\x1b[2m|"),
+    ("\x1b]8;;u\x07\t\n", "\u{301}"),
+    ("\x1b[2J日\x07", "\x1b"),
+];
+
+/// Compares a text wrapped at each width, without an indent and with each.
 fn expect_lines(tally: &mut Tally, spelled: &str) {
     let text = Text::new(spelled);
     let clean = paragraph(spelled);
@@ -553,6 +609,17 @@ fn expect_lines(tally: &mut Tally, spelled: &str) {
         let got: Vec<String> = spelled.ansi_wrap(most).collect();
         let want = wrapped(&clean, &lines(&clean.plain, most));
         tally.expect(got, want, (most, spelled));
+        for (first, later) in INDENTS {
+            let (indent, next) = (closed_cell(first), closed_cell(later));
+            let taken = spelled_width(&indent).max(spelled_width(&next));
+            let left = lines(&clean.plain, most.saturating_sub(taken));
+            let indents = iter::once(indent).chain(iter::repeat(next));
+            let own = wrapped(&clean, &left);
+            let want: Vec<_> = indents.zip(own).map(|(indent, it)| indent + &it).collect();
+            let to = Wrap::at(most).first_indent(first).indent(later);
+            let got: Vec<_> = spelled.ansi_wrap_with(&to).collect();
+            tally.expect(got, want, (to, spelled));
+        }
     }
 }
 

@@ -1,6 +1,7 @@
 //! A model of the library: its definitions, computed slowly and plainly, and compared with its results.
 
 mod blocks;
+mod cells;
 mod columns;
 mod cut;
 mod edits;
