@@ -369,7 +369,7 @@ pub trait AnsiRestyle: AnsiStr {
     ///
     /// A range is a pair of positions, which count bytes of the plain text of this text. The ranges
     /// have to be in order and mustn't overlap. It is `None` exactly if `ansi_restyle` would refuse
-    /// them. Texts at the same position stand in the order of their ranges.
+    /// them. Texts at the same position come in the order of their ranges.
     ///
     /// It is a borrow if each range is empty, and so is the text in its place. A borrow and a `None`
     /// don't allocate. Otherwise it is owned. `Err` means out of memory. Takes time in proportion to
