@@ -64,6 +64,7 @@ pub mod RowLemmas
 pub mod RowScreenLemmas
 pub mod SequenceLemmas
 pub mod EditLemmas
+pub mod EditWrapLemmas
 pub mod PlainCellLemmas
 pub mod PrintableTextLemmas
 pub mod FrontRunLemmas

@@ -85,6 +85,11 @@ is_lent (Borrowed s) None = true
 is_lent (Borrowed s) (Some e) = false
 is_lent (Owned s) e = false
 
+-- the text is the caller's, which may lend its lines
+abbrev pub lends : {A : Type 0} → CowStr A → Bool
+lends (Borrowed s) = true
+lends (Owned s) = false
+
 -- a wrap has these spans left; there are some before its failure is returned
 pub record AreLeft {A E : Type 0} (c : CowStr A) (failure : Option E) (s : Spans) : Type 0 where
   pub spans : AreSpans (cow_str_bytes c) s

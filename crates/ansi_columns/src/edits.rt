@@ -1,21 +1,26 @@
 //! Edits of a text by columns, one after another.
-ghost use Rattle.std.specs.Prelude.{◌≡◌, ◌↔◌, false, IfOk, IsTrue};
+ghost use Rattle.std.specs.Prelude.{◌≡◌, ◌↔◌, false, not, List, map, All, IfOk, IsTrue, IsFalse};
 ghost use Rattle.std.specs.Cow.{cow_str_bytes, IsBorrowedStr};
+ghost use Rattle.std.specs.List.{list_all};
 ghost use Rattle.std.specs.Str.{IsUtf8};
 ghost use Rattle.ansi_safe.specs.Links.{IsClosed};
 ghost use Rattle.ansi_safe.specs.Safe.{is_safe};
 ghost use Rattle.ansi_safe.specs.declared.policy.Links.TheVariants.{Keep};
 ghost use Rattle.ansi_columns.specs.Edits.{change_of, changes_of, only_expand, HasUtf8Tail};
-ghost use Rattle.ansi_columns.specs.Edits.{changed, edited, edited_row, IsLent, IsLentEdited};
+ghost use Rattle.ansi_columns.specs.Edits.{changed, changed_in_turn, edited, edited_row};
+ghost use Rattle.ansi_columns.specs.Edits.{IsLent, AreLent, IsLentEdited};
+ghost use Rattle.ansi_columns.specs.Indents.{wrapped_with, IsWrappedWith};
 ghost use Rattle.ansi_columns.specs.OneLine.{is_one_line};
-ghost use Rattle.ansi_columns.specs.Rows.{row_screen};
+ghost use Rattle.ansi_columns.specs.Rows.{cell_row, row_screen, indented_screens};
 ghost use Rattle.ansi_columns.specs.Screens.{screen};
+ghost use Rattle.ansi_columns.specs.Wrapped.{CarriedPart};
 
 use crate::fit::fit;
 use crate::shown::{Alignment, pad};
 use crate::sides::{Side, Truncation, truncate_with};
 use crate::slices::slice;
 use crate::tabs::expand_tabs;
+use crate::wrap::indents::{AnsiWrapWith, Wrap, wrap_edited};
 use std::alloc::{AllocError, Allocator};
 use std::borrow::CowStr;
 
@@ -96,12 +101,7 @@ pub fn edit_columns<'t, A: Allocator + Copy>(
     ensures borrowed { IfOk result (λ c.
         IsBorrowedStr c ↔ IsLentEdited (changes_of edits.now) text.now) }
 {
-    let mut edited = CowStr::Borrowed(text);
-    let mut left = edits;
-    'edits: while let [edit, more @ ..] = left {
-        edited = edit_column(alloc, edit, edited)?;
-        left = more;
-    }
+    let edited = edit_in_turn(alloc, text, edits)?;
     if only_expand(edits) {
         // It isn't too narrow, so its link and its style are closed, and it gets no blanks.
         let close = ColumnEdit::Pad {
@@ -109,6 +109,88 @@ pub fn edit_columns<'t, A: Allocator + Copy>(
             alignment: Alignment::Left,
         };
         return edit_column(alloc, &close, edited);
+    }
+    Ok(edited)
+}
+
+/// The lines of the text after the edits in turn, wrapped at a width, with indents.
+///
+/// Each edit is made as [`edit_columns`] makes it. What they make is wrapped as it is, as
+/// `wrap::indents::wrap_with` does it, so each line is safe, on one line, and with nothing open. A
+/// text that is only expanded keeps its line ends, and a line ends at each. Without an edit the lines
+/// are those of `wrap_with`.
+///
+/// The lines may borrow from the text and live as long as it. If some edit doesn't leave a stretch of
+/// the text as it is, each line is owned. `Err` means out of memory for an edit; a line may be an
+/// `Err` too. (Own.)
+///
+/// ```
+/// let slice = ColumnEdit::Slice {
+///     start: 2,
+///     end: None,
+/// };
+/// let mut lines = String::new(rt.alloc());
+/// for line in edit_and_wrap(rt.alloc(), "> \x1b[1mlion tiger", &[slice], &Wrap::at(5))? {
+///     lines.push_str(line?.as_str())?;
+///     lines.push('\n')?;
+/// }
+/// assert!(rt; lines.as_str() == "\x1b[1mlion\x1b[22m\n\x1b[1mtiger\x1b[22m\n");
+/// ```
+pub fn edit_and_wrap<'t, 'a, A: Allocator + Copy>(
+    alloc: A,
+    text: &'t str,
+    edits: &[ColumnEdit<'_>],
+    to: &Wrap<'a>,
+) -> Result<AnsiWrapWith<'t, 'a, A>, AllocError>
+    ensures first_fit { IfOk result (λ lines. (wrapped : List CarriedPart)
+        × IsWrappedWith (changed_in_turn (changes_of edits.now) text.now) to.now.width
+        to.now.first_indent.now to.now.indent.now wrapped
+        × (map (λ l. l.bytes) lines ≡ map (λ l. l.bytes) wrapped)) }
+    ensures bytes { IfOk result (λ lines. map (λ l. l.bytes) lines
+        ≡ map (λ l. l.bytes) (wrapped_with (changed_in_turn (changes_of edits.now) text.now)
+        to.now.width to.now.first_indent.now to.now.indent.now)) }
+    ensures safe { IfOk result (All (λ l. IsTrue (is_safe Keep l.bytes))) }
+    ensures one_line { IfOk result (All (λ l. IsTrue (is_one_line l.bytes))) }
+    ensures closed { IfOk result (All (λ l. IsClosed l.bytes)) }
+    ensures screen { IfOk result (λ lines. map (λ l. screen l.bytes) lines
+        ≡ indented_screens (changed_in_turn (changes_of edits.now) text.now) to.now.width
+        to.now.first_indent.now to.now.indent.now) }
+    ensures lent { AreLent (changes_of edits.now) text.now → IfOk result (λ lines.
+        lines ≡ wrapped_with (changed_in_turn (changes_of edits.now) text.now) to.now.width
+        to.now.first_indent.now to.now.indent.now) }
+    ensures owned { (AreLent (changes_of edits.now) text.now → ⊥) → IfOk result (λ lines.
+        IsTrue (list_all (λ l. not l.borrowed) lines)) }
+{
+    let made = edit_in_turn(alloc, text, edits)?;
+    Ok(wrap_edited(alloc, made, to))
+}
+
+/// What edits make of a text in turn. `Err` means out of memory.
+fn edit_in_turn<'t, A: Allocator + Copy>(
+    alloc: A,
+    text: &'t str,
+    edits: &[ColumnEdit<'_>],
+) -> Result<CowStr<'t, A>, AllocError>
+    ensures bytes { IfOk result (λ c.
+        cow_str_bytes c ≡ changed_in_turn (changes_of edits.now) text.now) }
+    ensures row { IfOk result (λ c.
+        cell_row (cow_str_bytes c) ≡ edited_row (changes_of edits.now) text.now) }
+    ensures safe { IsFalse (only_expand (changes_of edits.now)) →
+        IfOk result (λ c. IsTrue (is_safe Keep (cow_str_bytes c))) }
+    ensures one_line { IsFalse (only_expand (changes_of edits.now)) →
+        IfOk result (λ c. IsTrue (is_one_line (cow_str_bytes c))) }
+    ensures closed { IsFalse (only_expand (changes_of edits.now)) →
+        IfOk result (λ c. IsClosed (cow_str_bytes c)) }
+    ensures screen { IsFalse (only_expand (changes_of edits.now)) → IfOk result (λ c.
+        screen (cow_str_bytes c) ≡ row_screen (edited_row (changes_of edits.now) text.now)) }
+    ensures borrowed { IfOk result (λ c.
+        IsBorrowedStr c ↔ AreLent (changes_of edits.now) text.now) }
+{
+    let mut edited = CowStr::Borrowed(text);
+    let mut left = edits;
+    'edits: while let [edit, more @ ..] = left {
+        edited = edit_column(alloc, edit, edited)?;
+        left = more;
     }
     Ok(edited)
 }

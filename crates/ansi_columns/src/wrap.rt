@@ -1,7 +1,10 @@
 //! The lines of a wrapped text, ready for display. Each line opens the style and link carried into
 //! it, and closes them.
 ghost use Rattle.std.specs.Prelude.{◌≡◌, ◌↔◌, [], false, map, All, IsTrue, IsFalse};
+ghost use Rattle.std.specs.Prelude.{IfOk, IfSome, IfNone, string_bytes};
+ghost use Rattle.std.specs.Cow.{cow_str_bytes};
 ghost use Rattle.std.specs.List.{list_all};
+ghost use Rattle.std.specs.Str.{IsUtf8};
 ghost use Rattle.ansi_items.specs.Plain.{has_escape};
 ghost use Rattle.ansi_safe.specs.Cells.{paragraph};
 ghost use Rattle.ansi_safe.specs.Links.{IsClosed};
@@ -11,7 +14,7 @@ ghost use Rattle.ansi_columns.specs.OneLine.{is_one_line};
 ghost use Rattle.ansi_columns.specs.Rows.{line_screens};
 ghost use Rattle.ansi_columns.specs.Screens.{screen};
 ghost use Rattle.ansi_columns.specs.Wrapped.{lent_lines, wrapped, IsWrapped, GivesLine};
-ghost use Rattle.ansi_columns.specs.WrapStates.{span_lines, AreSpans};
+ghost use Rattle.ansi_columns.specs.WrapStates.{lends, span_lines, AreSpans};
 
 pub mod indents;
 pub(crate) mod pens;
@@ -82,6 +85,47 @@ pub fn wrap<'t, A: Allocator + Copy>(alloc: A, text: &'t str, width: usize) -> A
     match paragraph_of(alloc, text) {
         Ok(paragraph) => AnsiWrap::over(alloc, paragraph, None, width),
         Err(e) => AnsiWrap::over(alloc, CowStr::Borrowed(text), Some(e), width),
+    }
+}
+
+/// Like [`wrap`], of a text that may be owned. Then no line borrows.
+pub(crate) fn wrap_cow<'t, A: Allocator + Copy>(
+    alloc: A,
+    text: CowStr<'t, A>,
+    width: usize,
+) -> AnsiWrap<'t, A>
+    ensures lines { result
+        ≡ lent_lines (lends text.entry) (wrapped (cow_str_bytes text.entry) width) }
+    ensures utf8 { IsUtf8 (cow_str_bytes text.entry) }
+{
+    match text {
+        CowStr::Borrowed(text) => wrap(alloc, text, width),
+        CowStr::Owned(text) => wrap_owned(alloc, text, width),
+    }
+}
+
+/// The lines of an owned text. None of them borrows.
+#[tactic(auto, using(crate::proofs::EditWrapLemmas::owned_wrapped))]
+fn wrap_owned<'t, A: Allocator + Copy>(alloc: A, text: String<A>, width: usize) -> AnsiWrap<'t, A>
+    ensures lines { result ≡ lent_lines false (wrapped (string_bytes text) width) }
+    ensures utf8 { IsUtf8 (string_bytes text) }
+{
+    match own_paragraph(alloc, text.as_str()) {
+        Ok(Some(paragraph)) => AnsiWrap::over(alloc, CowStr::Owned(paragraph), None, width),
+        Ok(None) => AnsiWrap::over(alloc, CowStr::Owned(text), None, width),
+        Err(e) => AnsiWrap::over(alloc, CowStr::Owned(text), Some(e), width),
+    }
+}
+
+/// The paragraph of a text, or `None` if the text is its own.
+fn own_paragraph<A: Allocator>(alloc: A, text: &str) -> Result<Option<String<A>>, AllocError>
+    ensures made { IfOk result (λ o. IfSome o (λ s. string_bytes s ≡ paragraph text.now)) }
+    ensures itself { IfOk result (λ o. IfNone o (paragraph text.now ≡ text.now)) }
+    ensures utf8 { IsUtf8 text.now }
+{
+    match paragraph_of(alloc, text)? {
+        CowStr::Borrowed(_) => Ok(None),
+        CowStr::Owned(paragraph) => Ok(Some(paragraph)),
     }
 }
 

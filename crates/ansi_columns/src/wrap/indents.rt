@@ -2,6 +2,7 @@
 ghost use Rattle.std.specs.Prelude.{◌≡◌, ◌+◌, ◌++◌, [], map, All, IsTrue, IsFalse};
 ghost use Rattle.std.specs.Prelude.{IsOk, IfOk, OnOk, OnErr};
 ghost use Rattle.std.specs.Prelude.{string_bytes};
+ghost use Rattle.std.specs.Cow.{cow_str_bytes};
 ghost use Rattle.std.specs.List.{list_all};
 ghost use Rattle.std.specs.Str.{IsUtf8};
 ghost use Rattle.ansi_items.specs.Plain.{plain, has_escape};
@@ -17,11 +18,13 @@ ghost use Rattle.ansi_columns.specs.Indents.{shown_indent, after_indent};
 ghost use Rattle.ansi_columns.specs.Indents.{wrapped_with, IsWrappedWith};
 ghost use Rattle.ansi_columns.specs.Rows.{indented_screens};
 ghost use Rattle.ansi_columns.specs.Screens.{screen};
+ghost use Rattle.ansi_columns.specs.Wrapped.{lent_lines};
+ghost use Rattle.ansi_columns.specs.WrapStates.{lends};
 
 use crate::shown::closed_cell;
 use crate::views::View;
 use crate::widths;
-use crate::wrap::{AnsiWrap, PushNext, has_next, wrap};
+use crate::wrap::{AnsiWrap, PushNext, has_next, wrap, wrap_cow};
 use std::alloc::{AllocError, Allocator, Global};
 use std::borrow::CowStr;
 use std::marker::Model;
@@ -158,6 +161,26 @@ pub fn wrap_with<'t, 'a, A: Allocator + Copy>(
     AnsiWrapWith {
         alloc,
         lines: wrap(alloc, text, to.text_width()),
+        next_indent: to.first_indent,
+        indent: to.indent,
+    }
+}
+
+/// Like `wrap_with`, of a text that may be owned. Then no line borrows.
+pub(crate) fn wrap_edited<'t, 'a, A: Allocator + Copy>(
+    alloc: A,
+    text: CowStr<'t, A>,
+    to: &Wrap<'a>,
+) -> AnsiWrapWith<'t, 'a, A>
+    ensures lines { result ≡ lent_lines (lends text.entry) (wrapped_with (cow_str_bytes text.entry)
+        to.now.width to.now.first_indent.now to.now.indent.now) }
+    ensures utf8 { IsUtf8 (cow_str_bytes text.entry) }
+    ensures first { IsUtf8 to.now.first_indent.now }
+    ensures later { IsUtf8 to.now.indent.now }
+{
+    AnsiWrapWith {
+        alloc,
+        lines: wrap_cow(alloc, text, to.text_width()),
         next_indent: to.first_indent,
         indent: to.indent,
     }

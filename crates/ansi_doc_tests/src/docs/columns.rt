@@ -1,6 +1,6 @@
 //! The examples of the docs of `ansi_columns`, in the same words.
 use ansi_columns::addresses::link_at;
-use ansi_columns::edits::edit_columns;
+use ansi_columns::edits::{edit_and_wrap, edit_columns};
 use ansi_columns::fit::fit;
 use ansi_columns::lines::Lines;
 use ansi_columns::shown::{pad, truncate};
@@ -113,6 +113,21 @@ fn edit_columns_example(rt: HostRuntime) -> Result<(), Fail> {
     };
     let cell = edit_columns(rt.alloc(), "\x1b[31m日本語\x1b[39m", &[cut, pad])?;
     assert!(rt; cell.as_str() == "   \x1b[31m日\x1b[39m…");
+    Ok(())
+}
+
+#[test]
+fn edit_and_wrap_example(rt: HostRuntime) -> Result<(), Fail> {
+    let slice = ColumnEdit::Slice {
+        start: 2,
+        end: None,
+    };
+    let mut lines = String::new(rt.alloc());
+    for line in edit_and_wrap(rt.alloc(), "> \x1b[1mlion tiger", &[slice], &Wrap::at(5))? {
+        lines.push_str(line?.as_str())?;
+        lines.push('\n')?;
+    }
+    assert!(rt; lines.as_str() == "\x1b[1mlion\x1b[22m\n\x1b[1mtiger\x1b[22m\n");
     Ok(())
 }
 

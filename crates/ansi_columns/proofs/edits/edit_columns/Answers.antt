@@ -4,66 +4,59 @@ use Rattle.std.proofs.lemmas.Result.{IfOk-weaker}
 use Rattle.ansi_columns.specs.Edits.{changes_of, edited, edited_row}
 use Rattle.ansi_columns.specs.Rows.{row_screen}
 use Rattle.ansi_columns.specs.Screens.{screen}
-use Rattle.ansi_columns.proofs.EditLemmas.{editing-begun, editing-next, editing-ended, first_left, if_ok_both, lent-next, ended-shown, ended-screen, closed-bytes, closed-shown, closed-screen}
+use Rattle.ansi_columns.proofs.EditLemmas.{if_ok_both, closed-bytes, closed-shown, closed-screen}
+use Rattle.ansi_columns.proofs.EditWrapLemmas.{only-editing}
 use Rattle.ansi_columns.proofs.TailLemmas.{shown-safe, shown-one_line, shown-closed}
 use Rattle.ansi_columns.proofs.edits.edit_columns.Goals as goal
-
--- before the first edit, and after each
-
-pub edits-init : goal.edits-init
-edits-init g c = record { editing = editing-begun (changes_of c.args.edits.now) c.args.text.now; lent = (λ both. both.1, λ all. (tt, all)) }
-
-pub edits-preserved : goal.edits-preserved
-edits-preserved g c = record {
-  editing = editing-next (first_left c.edits.left.now _ c.in-len1-up.len_at_least) c.in_ok-edited.ensures.bytes c.in_ok-edited.ensures.utf8 c.edits.invariant.editing;
-  lent = lent-next _ (first_left c.edits.left.now _ c.in-len1-up.len_at_least) c.in_ok-edited.ensures.bytes c.in_ok-edited.ensures.borrowed c.edits.invariant.lent;
-}
 
 -- one edit at least isn't an expansion
 
 pub returns-clause-safe : goal.returns-clause-safe
-returns-clause-safe g c = shown-safe (ended-shown (changes_of c.args.edits.now) c.args.text.now _ (editing-ended c.edits.left.now c.in_default.len_below c.edits.invariant.editing) (sym c.only_expand.ensures ∙ c.if-only_expand.false)) refl
+returns-clause-safe g c = c.in_ok-edited.ensures.safe (sym c.only_expand.ensures ∙ c.if-only_expand.false)
 
 pub returns-clause-one_line : goal.returns-clause-one_line
-returns-clause-one_line g c = shown-one_line (ended-shown (changes_of c.args.edits.now) c.args.text.now _ (editing-ended c.edits.left.now c.in_default.len_below c.edits.invariant.editing) (sym c.only_expand.ensures ∙ c.if-only_expand.false)) refl
+returns-clause-one_line g c = c.in_ok-edited.ensures.one_line (sym c.only_expand.ensures ∙ c.if-only_expand.false)
+
+pub returns-clause-closed : goal.returns-clause-closed
+returns-clause-closed g c = c.in_ok-edited.ensures.closed (sym c.only_expand.ensures ∙ c.if-only_expand.false)
 
 pub returns-clause-screen : goal.returns-clause-screen
-returns-clause-screen g c = ended-screen (changes_of c.args.edits.now) c.args.text.now _ (editing-ended c.edits.left.now c.in_default.len_below c.edits.invariant.editing) (sym c.only_expand.ensures ∙ c.if-only_expand.false)
+returns-clause-screen g c = c.in_ok-edited.ensures.screen (sym c.only_expand.ensures ∙ c.if-only_expand.false)
 
 -- each is one, so the text is closed
 
 pub returns-then-only_expand-clause-bytes : goal.returns-then-only_expand-clause-bytes
 returns-then-only_expand-clause-bytes g c =
-    let editing = editing-ended c.edits.left.now c.in_default.len_below c.edits.invariant.editing in
     let only = sym c.only_expand.ensures ∙ c.if-only_expand.true in
-    let r = c.edit_column-then-only_expand in
-    IfOk-weaker r.result _ (λ s. cow_str_bytes s ≡ edited (changes_of c.args.edits.now) c.args.text.now) (λ s made. closed-bytes (changes_of c.args.edits.now) c.args.text.now (cow_str_bytes c.edits.edited) editing only {v = cow_str_bytes s} made) r.ensures.bytes
+    let editing = only-editing (changes_of c.args.edits.now) c.args.text.now (cow_str_bytes c.in_ok-edited.edited) c.in_ok-edited.ensures.bytes c.in_ok-edited.ensures.row only in
+    let r = c.edit_column in
+    IfOk-weaker r.result _ (λ s. cow_str_bytes s ≡ edited (changes_of c.args.edits.now) c.args.text.now) (λ s made. closed-bytes (changes_of c.args.edits.now) c.args.text.now (cow_str_bytes c.in_ok-edited.edited) editing only {v = cow_str_bytes s} made) r.ensures.bytes
 
 pub returns-then-only_expand-clause-safe : goal.returns-then-only_expand-clause-safe
 returns-then-only_expand-clause-safe g c =
-    let editing = editing-ended c.edits.left.now c.in_default.len_below c.edits.invariant.editing in
     let only = sym c.only_expand.ensures ∙ c.if-only_expand.true in
-    let r = c.edit_column-then-only_expand in
+    let editing = only-editing (changes_of c.args.edits.now) c.args.text.now (cow_str_bytes c.in_ok-edited.edited) c.in_ok-edited.ensures.bytes c.in_ok-edited.ensures.row only in
+    let r = c.edit_column in
     if_ok_both r.result (λ s made utf8. shown-safe (closed-shown (changes_of c.args.edits.now) c.args.text.now _ editing only made utf8.0) refl) r.ensures.bytes r.ensures.utf8
 
 pub returns-then-only_expand-clause-one_line : goal.returns-then-only_expand-clause-one_line
 returns-then-only_expand-clause-one_line g c =
-    let editing = editing-ended c.edits.left.now c.in_default.len_below c.edits.invariant.editing in
     let only = sym c.only_expand.ensures ∙ c.if-only_expand.true in
-    let r = c.edit_column-then-only_expand in
+    let editing = only-editing (changes_of c.args.edits.now) c.args.text.now (cow_str_bytes c.in_ok-edited.edited) c.in_ok-edited.ensures.bytes c.in_ok-edited.ensures.row only in
+    let r = c.edit_column in
     if_ok_both r.result (λ s made utf8. shown-one_line (closed-shown (changes_of c.args.edits.now) c.args.text.now _ editing only made utf8.0) refl) r.ensures.bytes r.ensures.utf8
 
 pub returns-then-only_expand-clause-closed : goal.returns-then-only_expand-clause-closed
 returns-then-only_expand-clause-closed g c =
-    let editing = editing-ended c.edits.left.now c.in_default.len_below c.edits.invariant.editing in
     let only = sym c.only_expand.ensures ∙ c.if-only_expand.true in
-    let r = c.edit_column-then-only_expand in
+    let editing = only-editing (changes_of c.args.edits.now) c.args.text.now (cow_str_bytes c.in_ok-edited.edited) c.in_ok-edited.ensures.bytes c.in_ok-edited.ensures.row only in
+    let r = c.edit_column in
     if_ok_both r.result (λ s made utf8. shown-closed (closed-shown (changes_of c.args.edits.now) c.args.text.now _ editing only made utf8.0) refl) r.ensures.bytes r.ensures.utf8
 
 pub returns-then-only_expand-clause-screen : goal.returns-then-only_expand-clause-screen
 returns-then-only_expand-clause-screen g c =
-    let editing = editing-ended c.edits.left.now c.in_default.len_below c.edits.invariant.editing in
     let only = sym c.only_expand.ensures ∙ c.if-only_expand.true in
-    let r = c.edit_column-then-only_expand in
+    let editing = only-editing (changes_of c.args.edits.now) c.args.text.now (cow_str_bytes c.in_ok-edited.edited) c.in_ok-edited.ensures.bytes c.in_ok-edited.ensures.row only in
+    let r = c.edit_column in
     if_ok_both r.result {R = λ s. screen (cow_str_bytes s) ≡ row_screen (edited_row (changes_of c.args.edits.now) c.args.text.now)}
-    (λ s made utf8. closed-screen (changes_of c.args.edits.now) c.args.text.now (cow_str_bytes c.edits.edited) editing only {v = cow_str_bytes s} made utf8.0) r.ensures.bytes r.ensures.utf8
+    (λ s made utf8. closed-screen (changes_of c.args.edits.now) c.args.text.now (cow_str_bytes c.in_ok-edited.edited) editing only {v = cow_str_bytes s} made utf8.0) r.ensures.bytes r.ensures.utf8

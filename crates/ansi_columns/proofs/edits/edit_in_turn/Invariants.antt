@@ -2,7 +2,7 @@ use Rattle.std.proofs.Common.{◌↔◌, length}
 use Rattle.std.specs.Cow.{cow_str_bytes, IsBorrowedStr}
 use Rattle.ansi_columns.specs.Edits.{changes_of, AreLent}
 use Rattle.ansi_columns.proofs.EditLemmas.{IsEditing}
-use Rattle.ansi_columns.proofs.edits.edit_columns.Given as goal
+use Rattle.ansi_columns.proofs.edits.edit_in_turn.Given as goal
 
 -- the edits that are left make of the text so far what all make of the text, and lend what all lend
 abbrev pub invariant-edits : goal.invariant-edits
