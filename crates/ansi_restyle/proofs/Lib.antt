@@ -5,6 +5,7 @@ pub mod OtherLemmas
 pub mod StayLemmas
 pub mod FrontLemmas
 pub mod ChangeLemmas
+pub mod CodeListLemmas
 pub mod RestyledLemmas
 pub mod RestyleWalkLemmas
 pub mod TurnLemmas

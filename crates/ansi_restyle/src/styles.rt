@@ -1,8 +1,10 @@
 //! Styles that a caller makes.
-ghost use Rattle.std.specs.Prelude.{◌≡◌, ◌↔◌, IfOk, IfSome, IsFalse, IsNone, IsOk};
+ghost use Rattle.std.specs.Prelude.{◌≡◌, ◌↔◌, IfOk, IfSome, IsFalse, IsNone, IsOk, IsTrue};
+ghost use Rattle.std.specs.Prelude.{string_bytes};
+ghost use Rattle.ansi_style.specs.Rendition.{known};
 ghost use Rattle.ansi_style.specs.States.{rendition_of};
 ghost use Rattle.ansi_restyle.specs.Restyled.{is_change};
-ghost use Rattle.ansi_restyle.specs.Styles.{selected};
+ghost use Rattle.ansi_restyle.specs.Styles.{codes_of, selected};
 
 use crate::restyle;
 use ansi_style::state::Style;
@@ -29,4 +31,34 @@ pub fn style_of<A: Allocator>(alloc: A, codes: &str) -> Result<Option<Style>, Al
     let mut style = styles::plain_style();
     styles::apply(&mut style, sequence.as_str());
     Ok(Some(style))
+}
+
+/// The SGR codes that select the style: one for each attribute, color or font that is set, with `;`
+/// between, as `"1;31"` for bold and red, and `"38;5;208"` for an extended color. The plain style has
+/// none. `style_of` returns the style again, but for `reset` and `unknown`, which change nothing that
+/// is shown. `Err` means out of memory. (Own.)
+///
+/// ```
+/// let orange = style_of(rt.alloc(), "38;5;208;1")?.ok_or("no codes")?;
+/// let codes = codes_of(rt.alloc(), &orange)?;
+/// assert!(rt; codes.as_str() == "1;38;5;208");
+/// ```
+pub fn codes_of<A: Allocator + Copy>(alloc: A, style: &Style) -> Result<String<A>, AllocError>
+    ensures codes { IfOk result (λ s. string_bytes s ≡ codes_of (rendition_of style.now)) }
+    ensures selected { IfOk result (λ s.
+        known (selected (string_bytes s)) ≡ known (rendition_of style.now)) }
+    ensures change { IfOk result (λ s. IsTrue (is_change (string_bytes s))) }
+{
+    let mut start = String::new(alloc);
+    styles::write_start(style, &mut start)?;
+    let mut codes = String::new(alloc);
+    let mut separator = "";
+    let mut rest = start.as_str();
+    while let Some((sequence, more)) = rest.split_once('m') {
+        codes.push_str(separator)?;
+        codes.push_str(&sequence[2..])?;
+        separator = ";";
+        rest = more;
+    }
+    Ok(codes)
 }
