@@ -1,5 +1,5 @@
 -- A list of codes with semicolons between: how it is written, and that it does what its codes do one after another.
-use Rattle.std.proofs.Common.{◌≡◌, ◌≢◌, ℕ, zero, suc, ◌<◌, inl, inr, Bool, true, false, not, ◌&&◌, ◌||◌, ◌==◌, nat_le, List, [], ◌∷◌, ◌++◌, flat_map, length, get_or, Option, Some, None, refl, sym, ◌∙◌, ap, ap₂, subst, arith, lit<, codes, decimal, IfSome, IsTrue, length-append, append_assoc, append-nil}
+use Rattle.std.proofs.Common.{◌≡◌, ◌≢◌, ℕ, zero, suc, ◌<◌, inl, inr, Bool, true, false, not, ◌&&◌, ◌||◌, ◌==◌, nat_le, List, [], ◌∷◌, ◌++◌, flat_map, length, drop, get_or, Option, Some, None, refl, sym, ◌∙◌, ap, ap₂, subst, arith, lit<, codes, decimal, IfSome, IsTrue, length-append, append_assoc, append-nil}
 use Rattle.std.proofs.Math.Bool.{and-true, or-true}
 use Rattle.std.proofs.lemmas.Bool.{agree_below_at, and_from, and_parts, cases_Bool, leb-true, not-true, true≢false}
 use Rattle.std.proofs.lemmas.List.Folds.{list_all-append}
@@ -21,7 +21,7 @@ use Rattle.ansi_style.specs.Sgr.{Effect, Changes, ReadsColor, effect_of, is_code
 use Rattle.ansi_style.specs.Written.{written, written_all, code_if, color_code, color_codes, font_codes, start_codes}
 use Rattle.ansi_style.proofs.ColorLemmas.{IsByteColor-foreground, IsByteColor-background, IsByteColor-extended, sgr_parameters-written}
 use Rattle.ansi_style.proofs.StateLemmas.{after_fields, after_fields-step, apply-parameters}
-use Rattle.ansi_style.proofs.ReadBackLemmas.{AreCodes, apply_codes, start_codes_are}
+use Rattle.ansi_style.proofs.ReadBackLemmas.{apply_codes, start_codes_are}
 use Rattle.ansi_style.proofs.StartLemmas.{start_codes_set}
 use Rattle.ansi_restyle.specs.Restyled.{is_change}
 use Rattle.ansi_restyle.specs.Styles.{codes_of, selected}
@@ -138,6 +138,12 @@ joined-next {whole} {done} {separator} {rest} a b before cut = by_left before.le
           };
         }
 
+pub joined-pushed : {whole done separator rest : List ℕ} (a b : Bor (List ℕ)) (one piece new : List ℕ) → IsJoinedSoFar whole done separator rest → IsSplitOnceResult (byte "m") rest (Some (a, b))
+    → one ≡ done ++ separator → piece ≡ drop 2 a.now → new ≡ one ++ piece → IsJoinedSoFar whole new (codes ";") b.now
+joined-pushed a b one piece new before cut first is last =
+    let next = joined-next a b before cut in
+    next.next new (last ∙ ap₂ (λ u v. u ++ v) first (is ∙ ap (drop 2) next.sequence_is))
+
 -- none is left
 pub joined-done : {whole done separator rest : List ℕ} → IsJoinedSoFar whole done separator rest → IsSplitOnceResult (byte "m") rest None → done ≡ whole
 joined-done {whole} {done} {separator} {rest} before none = by_left before.left before.rest_is before.each before.so_far
@@ -160,11 +166,11 @@ slice_split-seam p (x ∷ xs) y ys is =
     let more = slice_split-seam p xs y ys is in
     elim (cases_Bool (p x)) [
       | inl ends ↦ (
-        slice_split-cons_yes p x (xs ++ (y ∷ ys)) ends ∙ ap (λ parts. [] ∷ parts) more ∙ sym (ap (λ parts. parts ++ slice_split p ys) (slice_split-cons_yes p x xs ends)))
+          slice_split-cons_yes p x (xs ++ (y ∷ ys)) ends ∙ ap (λ parts. [] ∷ parts) more ∙ sym (ap (λ parts. parts ++ slice_split p ys) (slice_split-cons_yes p x xs ends)))
       | inr goes_on ↦ (
-        slice_split-cons_no p x (xs ++ (y ∷ ys)) goes_on ∙ ap (onto_first x) more
-        ∙ onto_first-append x (slice_split p xs) (slice_split p ys) (omega (arith, length-slice_split p xs))
-        ∙ sym (ap (λ parts. parts ++ slice_split p ys) (slice_split-cons_no p x xs goes_on)))
+          slice_split-cons_no p x (xs ++ (y ∷ ys)) goes_on ∙ ap (onto_first x) more
+          ∙ onto_first-append x (slice_split p xs) (slice_split p ys) (omega (arith, length-slice_split p xs))
+          ∙ sym (ap (λ parts. parts ++ slice_split p ys) (slice_split-cons_no p x xs goes_on)))
     ]
 
 fields_of-joined : (x y : List ℕ) (xs : List (List ℕ)) → fields_of (joined (x ∷ y ∷ xs)) ≡ fields_of x ++ fields_of (joined (y ∷ xs))

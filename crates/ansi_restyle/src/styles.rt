@@ -33,10 +33,11 @@ pub fn style_of<A: Allocator>(alloc: A, codes: &str) -> Result<Option<Style>, Al
     Ok(Some(style))
 }
 
-/// The SGR codes that select the style: one for each attribute, color or font that is set, with `;`
-/// between, as `"1;31"` for bold and red, and `"38;5;208"` for an extended color. The plain style has
-/// none. `style_of` returns the style again, but for `reset` and `unknown`, which change nothing that
-/// is shown. `Err` means out of memory. (Own.)
+/// The SGR codes that select a style, as a text of its own: a code for each attribute, color and font
+/// that is set, in the order of `Style::start`, with `;` between. An extended color is a code such as
+/// `38;5;208` or `38;2;255;135;0`. The plain style has no code. `style_of` of the codes returns the
+/// style again, but for `reset` and `unknown`, which change nothing that is shown. `Err` means out of
+/// memory. (Own.)
 ///
 /// ```
 /// let orange = style_of(rt.alloc(), "38;5;208;1")?.ok_or("no codes")?;
@@ -52,6 +53,7 @@ pub fn codes_of<A: Allocator + Copy>(alloc: A, style: &Style) -> Result<String<A
     let mut start = String::new(alloc);
     styles::write_start(style, &mut start)?;
     let mut codes = String::new(alloc);
+    // a start has a sequence for each code: `ESC [`, the code and `m`
     let mut separator = "";
     let mut rest = start.as_str();
     while let Some((sequence, more)) = rest.split_once('m') {

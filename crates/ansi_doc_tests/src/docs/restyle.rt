@@ -7,7 +7,7 @@ use ansi_restyle::replace::{insert_in, replace_in};
 use ansi_restyle::replace_all::replace_all_in;
 use ansi_restyle::replace_each::{Replacement, replace_each_in};
 use ansi_restyle::restyle::{mark_in, restyle_in};
-use ansi_restyle::styles::{difference, style_of, union};
+use ansi_restyle::styles::{codes_of, difference, style_of, union};
 use ansi_str::Color;
 use std::test::Fail;
 
@@ -228,6 +228,14 @@ fn style_of_example(rt: HostRuntime) {
     assert!(rt;
         matches!(&style, Ok(Some(style)) if style.is_bold() && style.foreground() == Some(Color::Red))
     );
+}
+
+#[test]
+fn codes_of_example(rt: HostRuntime) -> Result<(), Fail> {
+    let orange = style_of(rt.alloc(), "38;5;208;1")?.ok_or("no codes")?;
+    let codes = codes_of(rt.alloc(), &orange)?;
+    assert!(rt; codes.as_str() == "1;38;5;208");
+    Ok(())
 }
 
 #[test]

@@ -1,11 +1,11 @@
-use Rattle.std.proofs.Common.{rules, ◌++◌, drop, string_bytes, ◌∙◌, ap, ap₂}
+use Rattle.std.proofs.Common.{rules, ◌++◌, string_bytes, ◌∙◌, ap}
 use Rattle.ansi_style.specs.Rendition.{known}
 use Rattle.ansi_style.specs.States.{rendition_of}
 use Rattle.ansi_style.specs.Written.{start}
 use Rattle.ansi_style.proofs.StyleLemmas.{IsStyle-rendition_of}
 use Rattle.ansi_restyle.specs.Restyled.{is_change}
 use Rattle.ansi_restyle.specs.Styles.{selected}
-use Rattle.ansi_restyle.proofs.CodeListLemmas.{joined-begun, joined-next, joined-done, selected-codes_of, is_change-codes_of}
+use Rattle.ansi_restyle.proofs.CodeListLemmas.{joined-begun, joined-next, joined-pushed, joined-done, selected-codes_of, is_change-codes_of}
 use Rattle.ansi_restyle.proofs.styles.codes_of.Goals as goal
 
 -- nothing is written yet, and the start's sequences are left
@@ -25,13 +25,12 @@ range_from-requires g c = λ _. (joined-next c.in-Some.sequence c.in-Some.more c
 
 -- over a sequence
 pub loop-sequence-preserved : goal.loop-sequence-preserved
-loop-sequence-preserved g c =
-    let cut = joined-next c.in-Some.sequence c.in-Some.more c.loop-sequence.invariant.so_far c.in-Some.ensures.cases in
-    record {
-      separator_text = search rules;
-      rest_text = search rules;
-      so_far = cut.next (string_bytes c.push_str-in-Some.new.self) (c.in_ok-push_str-2.ensures.bytes ∙ ap₂ (λ u v. u ++ v) c.in_ok-push_str.ensures.bytes (c.range_from.ensures.value ∙ ap (drop 2) cut.sequence_is));
-    }
+loop-sequence-preserved g c = record {
+  separator_text = search rules;
+  rest_text = search rules;
+  so_far = joined-pushed c.in-Some.sequence c.in-Some.more (string_bytes c.push_str.new.self) c.range_from.result.now (string_bytes c.push_str-in-Some.new.self) c.loop-sequence.invariant.so_far c.in-Some.ensures.cases
+      c.in_ok-push_str.ensures.bytes c.range_from.ensures.value c.in_ok-push_str-2.ensures.bytes;
+}
 
 -- no sequence is left
 pub returns-clause-codes : goal.returns-clause-codes

@@ -1,4 +1,4 @@
-use Rattle.std.proofs.Common.{string_bytes, ℕ, length}
+use Rattle.std.proofs.Common.{string_bytes, length}
 use denote.Text.{Utf8}
 use denote.Shadow.{shadow}
 use Rattle.ansi_style.specs.States.{rendition_of}
