@@ -2,7 +2,7 @@
 result a text without a hostile byte that a terminal has to show alike. For `terminals`.
 
 A cell is a character, the SGRs since the last reset, and the sequence that opened its link. What is written here follows the pages; of the
-library it takes only the results."""
+library it takes only the results, and where lines end."""
 import re
 import unicodedata
 

@@ -13,14 +13,14 @@ use std::borrow::Cow;
 use std::env;
 use std::ops::Range;
 
-/// A character that is shown.
+/// A character, as a text has it or as it is shown.
 #[derive(Clone, Debug, PartialEq, Eq)]
-struct Cell {
-    character: char,
+pub(crate) struct Cell {
+    pub(crate) character: char,
     /// The sequences that set its style.
-    style: String,
+    pub(crate) style: String,
     /// The sequence that opened its link, or nothing.
-    link: String,
+    pub(crate) link: String,
 }
 
 impl Cell {
@@ -34,7 +34,7 @@ impl Cell {
     }
 
     /// A blank in no style and no link.
-    fn plain_blank() -> Cell {
+    pub(crate) fn plain() -> Cell {
         let (style, link) = (String::new(), String::new());
         let character = ' ';
         Cell {
@@ -45,18 +45,33 @@ impl Cell {
     }
 }
 
-/// What a line shows.
+/// The cell of a blank after a text, so what is open there.
+pub(crate) fn after(spelled: &str) -> Cell {
+    let mut row = Row::all(&format!("{spelled} "));
+    row.0.pop().expect("the blank")
+}
+
+/// The cells of a text, or of what a line shows.
 #[derive(Clone, Debug, PartialEq, Eq)]
-struct Row(Vec<Cell>);
+pub(crate) struct Row(pub(crate) Vec<Cell>);
 
 impl Row {
-    /// The characters of the runs of a text that are in a place, each as it is shown there, or not shown.
-    fn new(spelled: &str, shown: impl Fn(char) -> Option<char>) -> Row {
+    /// The cells of all characters of a text's runs.
+    pub(crate) fn all(spelled: &str) -> Row {
+        Row::new(spelled, Some, |_| true)
+    }
+
+    /// The characters of the runs of a text that are in a place, each as it is shown there, or not shown; and which link sequences stay.
+    fn new(
+        spelled: &str,
+        shown: impl Fn(char) -> Option<char>,
+        stays: impl Fn(&str) -> bool,
+    ) -> Row {
         let (mut style, mut link, mut cells) = (Style::default(), "", Vec::new());
         for item in Text::new(spelled).items {
             match item.kind {
                 Kind::Sgr => style.apply(item.parameters()),
-                Kind::Other => match address(item.spelled).filter(|_| is_clean(item.spelled)) {
+                Kind::Other => match address(item.spelled).filter(|_| stays(item.spelled)) {
                     Some("") => link = "",
                     Some(_) => link = item.spelled,
                     None => {}
@@ -78,14 +93,15 @@ impl Row {
 
     /// What a text shows on a line: a TAB and a line feed are blanks, and other controls aren't shown.
     fn of(spelled: &str) -> Row {
-        Row::new(spelled, |character| match character {
+        let shown = |character| match character {
             '\t' | '\n' => Some(' '),
             _ if Class::of(character) == Class::Control => None,
             _ => Some(character),
-        })
+        };
+        Row::new(spelled, shown, is_clean)
     }
 
-    fn characters(&self) -> String {
+    pub(crate) fn characters(&self) -> String {
         self.0.iter().map(|cell| cell.character).collect()
     }
 
@@ -93,16 +109,16 @@ impl Row {
         width(&self.characters())
     }
 
-    fn part(&self, range: Range<usize>) -> Row {
+    pub(crate) fn part(&self, range: Range<usize>) -> Row {
         Row(self.0[range].to_vec())
     }
 
     fn blanks(count: usize) -> Row {
-        Row(vec![Cell::plain_blank(); count])
+        Row(vec![Cell::plain(); count])
     }
 
     /// Rows side by side. A cluster may join where two meet.
-    fn beside(rows: &[Row]) -> Row {
+    pub(crate) fn beside(rows: &[Row]) -> Row {
         Row(rows.iter().flat_map(|row| row.0.clone()).collect())
     }
 
@@ -230,7 +246,7 @@ fn made<'t>(text: &'t str, edit: &ColumnEdit<'_>) -> Cow<'t, str> {
 /// Compares what a text shows, which is to be a line that is safe and leaves nothing open.
 fn expect_line(tally: &mut Tally, got: &str, want: &Row, name: impl std::fmt::Debug + Copy) {
     let text = Text::new(got);
-    let row = Row::new(got, Some);
+    let row = Row::all(got);
     let is_kept = |spelled: &str| address(spelled).is_some() && is_clean(spelled);
     let is_safe = text.items.iter().all(|item| match item.kind {
         Kind::Run => item
@@ -246,8 +262,7 @@ fn expect_line(tally: &mut Tally, got: &str, want: &Row, name: impl std::fmt::De
     tally.expect(&text.plain, &want.characters(), name);
     tally.expect(&row, want, name);
     tally.expect(got.ansi_width(), want.width(), name);
-    let open = Row::of(&format!("{got}x")).0.pop().expect("a letter");
-    tally.expect((&*open.style, &*open.link), ("", ""), name);
+    tally.expect(after(got), Cell::plain(), name);
 }
 
 fn expect_edited(tally: &mut Tally, spelled: &str, edits: &[ColumnEdit<'_>]) {
@@ -273,7 +288,7 @@ fn expect_indented(tally: &mut Tally, spelled: &str, to: &Wrap<'_>) {
     let (first, later) = (Row::of(to.first_indent), Row::of(to.indent));
     let left = to.width.saturating_sub(first.width().max(later.width()));
     let paragraph = paragraph(spelled);
-    let row = Row::new(&paragraph, Some);
+    let row = Row::all(&paragraph);
     let characters = row.characters();
     let cells_before = |place: usize| characters[..place].chars().count();
     let mut got = spelled.ansi_wrap_with(to);
@@ -310,21 +325,21 @@ const TAILS: [&str; 27] = [
 ];
 
 /// An xorshift.
-struct Draws(u64);
+pub(crate) struct Draws(pub(crate) u64);
 
 impl Draws {
-    fn below(&mut self, count: usize) -> usize {
+    pub(crate) fn below(&mut self, count: usize) -> usize {
         self.0 ^= self.0 << 13;
         self.0 ^= self.0 >> 7;
         self.0 ^= self.0 << 17;
         (self.0 >> 32) as usize % count
     }
 
-    fn of<T: Copy>(&mut self, all: &[T]) -> T {
+    pub(crate) fn of<T: Copy>(&mut self, all: &[T]) -> T {
         all[self.below(all.len())]
     }
 
-    fn text(&mut self) -> String {
+    pub(crate) fn text(&mut self) -> String {
         let count = self.below(15);
         let piece = |_| match self.below(5) {
             0 | 1 => self.of(&LETTERS),
@@ -368,7 +383,7 @@ impl Draws {
 }
 
 /// How many texts are drawn: as many as `ANSI_STR_TEXTS` says, or ten thousand.
-fn draws() -> usize {
+pub(crate) fn draws() -> usize {
     env::var("ANSI_STR_TEXTS").map_or(10_000, |count| count.parse().expect("a number"))
 }
 

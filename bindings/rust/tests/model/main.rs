@@ -2,6 +2,7 @@
 
 mod blocks;
 mod cells;
+mod changes;
 mod columns;
 mod cut;
 mod edits;
