@@ -61,7 +61,7 @@ all-weaker weaker (t ∷ ts) all = (weaker t all.0, all-weaker weaker ts all.1)
 safe-made : (change : Change) (t : List ℕ) → HasUtf8Tail change → IsUtf8 t → is_expansion change ≡ false → AreSafeTexts (changed change t)
 safe-made change t tail utf8 other = all-weaker made-safe (changed change t) (made-changed change t tail utf8 other)
 
-safe-changed : (change : Change) (t : List ℕ) → HasUtf8Tail change → IsSafeText t → AreSafeTexts (changed change t)
+pub safe-changed : (change : Change) (t : List ℕ) → HasUtf8Tail change → IsSafeText t → AreSafeTexts (changed change t)
 safe-changed (OnColumns (columns.Expanded stop)) t tail is = (safe-expanded stop t is, tt)
 safe-changed (OnColumns (columns.Sliced start end)) t tail is = safe-made (OnColumns (columns.Sliced start end)) t tail is.utf8 refl
 safe-changed (OnColumns (columns.Truncated side width cut)) t tail is = safe-made (OnColumns (columns.Truncated side width cut)) t tail is.utf8 refl

@@ -134,7 +134,7 @@ expanded-scalar stop x (c ∷ cs) are =
 
 -- ---- the pieces of the text: a run becomes these characters, and a sequence stays
 
-abbrev expanded_pieces : ℕ → List ℕ → List Piece → List Piece
+abbrev pub expanded_pieces : ℕ → List ℕ → List Piece → List Piece
 expanded_pieces stop x [] = []
 expanded_pieces stop x (Text w ∷ ps) = one_text (run_expanded stop x w) ++ expanded_pieces stop (fold since_stop x w) ps
 expanded_pieces stop x (p ∷ ps) = p ∷ expanded_pieces stop x ps
@@ -145,14 +145,14 @@ run-good stop x w utf8 allowed =
     let is : run_expanded stop x w ≡ encode_utf8_all ds = ap (run_expanded stop x) (sym (encodes-chars w utf8)) ∙ run-chars stop x (chars w) in
     subst (λ u. AreGood Keep (one_text u)) (sym is) (good_text Keep ds (record { stand = expanded-allowed stop x (chars w) allowed; scalar = expanded-scalar stop x (chars w) (scalars-chars w utf8) }))
 
-expanded-good : (stop : ℕ) (x : List ℕ) (ps : List Piece) → AreGood Keep ps → AreGood Keep (expanded_pieces stop x ps)
+pub expanded-good : (stop : ℕ) (x : List ℕ) (ps : List Piece) → AreGood Keep ps → AreGood Keep (expanded_pieces stop x ps)
 expanded-good stop x [] good = tt
 expanded-good stop x (Text w ∷ ps) good =
     AreGood-append Keep (one_text (run_expanded stop x w)) (expanded_pieces stop (fold since_stop x w) ps) (run-good stop x w good.0.2 good.0.3) (expanded-good stop (fold since_stop x w) ps good.1)
 expanded-good stop x (Sequence w ∷ ps) good = (good.0, expanded-good stop x ps good.1)
 expanded-good stop x (LoneEscape ∷ ps) good = absurd good.0
 
-spelled-expanded : (stop : ℕ) (x : List ℕ) (ps : List Piece) → spelled (expanded_pieces stop x ps) ≡ pieces_expanded stop x ps
+pub spelled-expanded : (stop : ℕ) (x : List ℕ) (ps : List Piece) → spelled (expanded_pieces stop x ps) ≡ pieces_expanded stop x ps
 spelled-expanded stop x [] = refl
 spelled-expanded stop x (Text w ∷ ps) =
     flat_map-append spelling (one_text (run_expanded stop x w)) (expanded_pieces stop (fold since_stop x w) ps)

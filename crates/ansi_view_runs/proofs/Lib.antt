@@ -12,4 +12,5 @@ pub mod SafeViewLemmas
 pub mod RowLemmas
 pub mod LineFeedLemmas
 pub mod NoLinkLemmas
+pub mod PolicyLemmas
 pub mod PromiseLemmas

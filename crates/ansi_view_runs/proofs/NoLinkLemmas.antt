@@ -1,7 +1,7 @@
 -- What changes make of a text without a link has none.
-use Rattle.std.proofs.Common.{◌≡◌, ℕ, ◌+◌, ◌-◌, ◌==◌, Bool, true, false, not, ◌&&◌, ◌||◌, List, [], ◌∷◌, ◌++◌, All, length, map, flat_map, fold, filter, chars, codes, slice_range, nat_le, nat_lt, encode_utf8, encode_utf8_all, Option, Some, None, is_some, if◌then◌else◌, IsTrue, refl, sym, ◌∙◌, ap, ap₂, subst, arith, append-nil}
+use Rattle.std.proofs.Common.{◌≡◌, ℕ, ◌+◌, ◌-◌, ◌==◌, Bool, true, false, not, ◌&&◌, ◌||◌, List, [], ◌∷◌, ◌++◌, All, length, map, flat_map, fold, filter, chars, codes, slice_range, nat_le, nat_lt, encode_utf8, encode_utf8_all, Option, Some, None, is_some, unwrap_or, zero, suc, if◌then◌else◌, IsTrue, refl, sym, ◌∙◌, ap, ap₂, subst, arith, append-nil}
 use Rattle.std.specs.List.{AllByRecursion, list_all}
-use Rattle.std.specs.Prelude.{bytes_eq}
+use Rattle.std.specs.Prelude.{◌≢◌, bytes_eq, ⊤}
 use Rattle.std.specs.Str.{IsUtf8, byte}
 use Rattle.std.proofs.lemmas.Bool.{cond_both, and_parts, and_from}
 use Rattle.std.proofs.lemmas.Bool.Decides.{nat_tests}
@@ -9,10 +9,10 @@ use Rattle.std.proofs.lemmas.Grind.{flat_map-append}
 use Rattle.std.proofs.lemmas.List.Folds.{list_all-append}
 use Rattle.ansi_items.specs.Bytes.{is_plain_byte}
 use Rattle.ansi_items.specs.Sequences.{is_sgr}
-use Rattle.ansi_items.specs.Pieces.{Piece, Text, Sequence, LoneEscape, spelling, pieces_of}
-use Rattle.ansi_items.specs.Plain.{Mark, plain, marks_of, marks, marks_up_to, is_whole}
-use Rattle.ansi_items.proofs.JoinLemmas.{spelled, after_text, merged, AllStandAnywhere, stand-append, pieces_of-spelled, is_whole-spelled, spelled-pieces_of, pieces_stand}
-use Rattle.ansi_items.proofs.PlainLemmas.{one_text}
+use Rattle.ansi_items.specs.Pieces.{Piece, Text, Sequence, LoneEscape, spelling, pieces_of, after_text, merged}
+use Rattle.ansi_items.specs.Plain.{Mark, plain, plain_bytes, marks_of, marks, marks_up_to, is_whole}
+use Rattle.ansi_items.proofs.JoinLemmas.{spelled, AllStandAnywhere, stand-append, pieces_of-spelled, is_whole-spelled, spelled-pieces_of, pieces_stand}
+use Rattle.ansi_items.proofs.PlainLemmas.{all_plain_bytes, has_escape-bare, has_escape-plain, one_text, pieces_of-bare}
 use Rattle.ansi_style.specs.declared.state.rendition.Rendition.{Rendition}
 use Rattle.ansi_style.specs.Rendition.{IsStyle, plain_style}
 use Rattle.ansi_style.specs.Reading.{after_marks}
@@ -27,24 +27,29 @@ use Rattle.ansi_slice.proofs.ShownLemmas.{at_places, piece_when, interleaved_pie
 use Rattle.ansi_split.specs.Parts.{marks_past}
 use Rattle.ansi_split.proofs.PartSliceLemmas.{own_places, marks_past-places, at_places-at_places}
 use Rattle.ansi_safe.specs.declared.policy.Links.TheVariants.{Keep, Remove}
-use Rattle.ansi_safe.specs.Cells.{cell, paragraph, placed, piece_in, run_in, in_place}
-use Rattle.ansi_safe.specs.Links.{link_of, link_after, link_after_all, link_at, link_end, is_link, pen_close}
+use Rattle.ansi_safe.specs.Cells.{cell, paragraph, placed, piece_in, run_in}
+use Rattle.ansi_safe.specs.Links.{link_of, link_after, link_after_all, link_at, link_end, is_link, opens_link, pen_close}
 use Rattle.ansi_safe.specs.Safe.{is_allowed, is_clean_link, keeps_links, may_stay, is_safe}
+use Rattle.ansi_safe.proofs.CellLemmas.{plain-placed}
 use Rattle.ansi_safe.proofs.LinkLemmas.{link_of-fold, is_link-sgr}
-use Rattle.ansi_safe.proofs.MadeLemmas.{whole-safe}
+use Rattle.ansi_safe.proofs.SafeLemmas.{AreGood, good_stand}
 use Rattle.ansi_columns.specs.declared.shown.Alignment.{Alignment}
 use Rattle.ansi_columns.specs.declared.sides.Side.{Side}
 use Rattle.ansi_columns.specs.Columns.{columns}
 use Rattle.ansi_columns.specs.Edits as columns
+use Rattle.ansi_columns.specs.Tabs.{since_stop, run_expanded, expanded}
 use Rattle.ansi_columns.specs.Lines.{lines}
 use Rattle.ansi_columns.specs.Shown.{has_tail, truncated_end, truncated_ending, truncated, missing, before_text, blanks, padded, closing, closed_cell}
 use Rattle.ansi_columns.specs.Sides.{fitting_tail, beside_tail, before_tail, is_cut_at_end, cut_before_end, truncated_at}
 use Rattle.ansi_columns.specs.Slices.{has_no_column, bytes_from, bytes_up_to, blanks_before, blanks_after, opened_at, pen_open, slice_opening, slice_middle, slice_closing, sliced_up_to, sliced}
 use Rattle.ansi_columns.specs.Wrapped.{CarriedPart, pen_end, line_over, lines_over, lent_lines, wrapped}
+use Rattle.ansi_columns.proofs.OneLineLemmas.{safe_are_good}
+use Rattle.ansi_view_runs.specs.Edits.{Change, OnColumns, Wrapped, changed}
+use Rattle.ansi_view_runs.proofs.ExpandedLemmas.{expanded_pieces, expanded-good, spelled-expanded}
 
 -- ---- texts whose sequences are all SGRs
 
-abbrev only_sgr : Piece → Bool
+abbrev pub only_sgr : Piece → Bool
 only_sgr (Text w) = true
 only_sgr (Sequence w) = is_sgr w
 only_sgr LoneEscape = false
@@ -118,7 +123,7 @@ sgrs-merged (Sequence w ∷ ps) all = (let both = and_parts (is_sgr w) (list_all
 sgrs-merged (LoneEscape ∷ ps) all = absurd (cc all)
 
 module _ (t : List ℕ) (none : HasNoLink t) where
-  own-sgrs : list_all only_sgr (pieces_of t) ≡ true
+  pub own-sgrs : list_all only_sgr (pieces_of t) ≡ true
   own-sgrs = subst (λ u. list_all only_sgr (pieces_of u) ≡ true) none.spell (ap (list_all only_sgr) (pieces_of-spelled none.pieces none.stand) ∙ sgrs-merged none.pieces none.sgrs)
 
   own-stand : AllStandAnywhere (pieces_of t)
@@ -146,7 +151,7 @@ marks-sgrs (LoneEscape ∷ ps) all = absurd (cc all)
 
 link-none : (ms : List Mark) → AreSgrs ms → link_after_all [] ms ≡ []
 link-none [] all = refl
-link-none (m ∷ ms) all = ap (λ b. link_after_all (if b then _ else []) ms) (is_link-sgr m.bytes all.0) ∙ link-none ms all.1
+link-none (m ∷ ms) all = ap (λ b. link_after_all (if b then (if opens_link m.bytes then m.bytes else []) else []) ms) (is_link-sgr m.bytes all.0) ∙ link-none ms all.1
 
 module _ (t : List ℕ) (none : HasNoLink t) where
   places-none : (test : ℕ → Bool) → link_after_all [] (at_places test (marks t)) ≡ []
@@ -181,53 +186,40 @@ module _ (t : List ℕ) (none : HasNoLink t) where
 
 -- ---- the text of a cell and of a paragraph
 
-abbrev is_no_escape : ℕ → Bool
-is_no_escape c = not (c == 0x1B)
+-- a run in a place has no escape, since it is the plain text of a text
+placed-bare : (place : _) (w : List ℕ) → w ≢ [] → list_all is_plain_byte w ≡ true → IsUtf8 w → list_all is_plain_byte (piece_in place (Text w)) ≡ true
+placed-bare place [] filled all utf8 = absurd (filled refl)
+placed-bare place (b ∷ w) filled all utf8 =
+    let one : pieces_of (b ∷ w) ≡ Text (b ∷ w) ∷ [] = pieces_of-bare (b ∷ w) (has_escape-bare (b ∷ w) all) in
+    let text : plain (placed place (b ∷ w)) ≡ piece_in place (Text (b ∷ w)) = plain-placed place (b ∷ w) utf8 ∙ ap (λ (ps : List Piece). encode_utf8_all (flat_map (λ (p : Piece). run_in place (chars (plain_bytes p))) ps)) one ∙ ap encode_utf8_all (append-nil (run_in place (chars (b ∷ w)))) in
+    subst (λ v. list_all is_plain_byte v ≡ true) text (all_plain_bytes (plain (placed place (b ∷ w))) (has_escape-plain (placed place (b ∷ w))))
 
-allowed-no_escape : (c : ℕ) (cs : List ℕ) → is_allowed c cs ≡ true → is_no_escape c ≡ true
-allowed-no_escape c cs allowed = by (c == 0x1B) refl
-  where
-    by : (b : Bool) → (c == 0x1B) ≡ b → not b ≡ true
-    by true is = absurd (let never : is_allowed 0x1B cs ≡ true = subst (λ x. is_allowed x cs ≡ true) (eqb-true c 0x1B is) allowed in cc never)
-    by false is = refl
-
-encode-no_escape : (c : ℕ) → is_no_escape c ≡ true → list_all is_plain_byte (encode_utf8 c) ≡ true
-unfolding lib.Utf8.encode
-encode-no_escape c other = grind (arith, nat_tests)
-
-encodes-no_escape : (cs : List ℕ) → list_all is_no_escape cs ≡ true → list_all is_plain_byte (encode_utf8_all cs) ≡ true
-encodes-no_escape [] all = refl
-encodes-no_escape (c ∷ cs) all =
-    let both = and_parts (is_no_escape c) (list_all is_no_escape cs) all in
-    list_all-append is_plain_byte (encode_utf8 c) (encode_utf8_all cs) ∙ and_from _ _ (encode-no_escape c both.0) (encodes-no_escape cs both.1)
-
-run-no_escape : (place : Place) (cs : List ℕ) → list_all is_no_escape (run_in place cs) ≡ true
-run-no_escape place [] = refl
-run-no_escape place (c ∷ cs) =
-    list_all-append is_no_escape (if is_allowed c cs then in_place place c else []) (run_in place cs)
-    ∙ and_from _ _ (cond_both (is_allowed c cs) (in_place place c) [] (λ v. list_all is_no_escape v ≡ true) (λ allowed. char place (allowed-no_escape c cs allowed)) (λ no. refl)) (run-no_escape place cs)
-  where
-    one : is_no_escape c ≡ true → list_all is_no_escape (c ∷ []) ≡ true
-    one other = and_from _ _ other refl
-
-    char : (place : Place) → is_no_escape c ≡ true → list_all is_no_escape (in_place place c) ≡ true
-    char Cell other = cond_both (c == 9 || c == 10) (32 ∷ []) _ (λ v. list_all is_no_escape v ≡ true) (λ blank. refl) (λ no. cond_both (c == 13) [] (c ∷ []) (λ v. list_all is_no_escape v ≡ true) (λ gone. refl) (λ stays. one other))
-    char Paragraph other = cond_both (c == 9) (32 ∷ []) (c ∷ []) (λ v. list_all is_no_escape v ≡ true) (λ blank. refl) (λ stays. one other)
-
-piece-none : (place : Place) (ps : List Piece) → AllStandAnywhere ps → list_all only_sgr ps ≡ true → HasNoLink (flat_map (piece_in place) ps)
-piece-none place [] stand all = no_link-nil
-piece-none place (Text w ∷ ps) stand all = no_link-append (no_link-bare _ (encodes-no_escape (run_in place (chars w)) (run-no_escape place (chars w)))) (piece-none place ps stand.1 all)
-piece-none place (Sequence w ∷ ps) stand all =
+pieces-placed : (place : _) (ps : List Piece) → AreGood Keep ps → list_all only_sgr ps ≡ true → HasNoLink (flat_map (piece_in place) ps)
+pieces-placed place [] good all = no_link-nil
+pieces-placed place (Text w ∷ ps) good all = no_link-append (no_link-bare (piece_in place (Text w)) (placed-bare place w good.0.0 good.0.1 good.0.2)) (pieces-placed place ps good.1 all)
+pieces-placed place (Sequence w ∷ ps) good all =
     let both = and_parts (is_sgr w) (list_all only_sgr ps) all in
-    let here : HasNoLink w = record { pieces = Sequence w ∷ []; stand = (stand.0, tt); sgrs = and_from _ _ both.0 refl; spell = append-nil w } in
-    no_link-append (either_text (may_stay Keep (Sequence w)) w [] here no_link-nil) (piece-none place ps stand.1 both.1)
-piece-none place (LoneEscape ∷ ps) stand all = absurd (cc all)
+    let here : HasNoLink w = record { pieces = Sequence w ∷ []; stand = (good.0.0, tt); sgrs = and_from (is_sgr w) true both.0 refl; spell = append-nil w } in
+    no_link-append (either_text (may_stay Keep (Sequence w)) w [] here no_link-nil) (pieces-placed place ps good.1 both.1)
+pieces-placed place (LoneEscape ∷ ps) good all = absurd good.0
 
-no_link-placed : (place : Place) (t : List ℕ) → HasNoLink t → HasNoLink (placed place t)
-no_link-placed place t none = piece-none place (pieces_of t) (own-stand t none) (own-sgrs t none)
+-- a safe text without a link
+pub record IsBare (t : List ℕ) : Type 0 where
+  pub utf8 : IsUtf8 t
+  pub safe : is_safe Keep t ≡ true
+  pub none : HasNoLink t
 
-no_link-closed_cell : (t : List ℕ) → HasNoLink t → HasNoLink (closed_cell t)
-no_link-closed_cell t none = no_link-closed (cell t) (no_link-placed Cell t none)
+no_link-placed : (place : _) (t : List ℕ) → IsBare t → HasNoLink (placed place t)
+no_link-placed place t is = pieces-placed place (pieces_of t) (safe_are_good t is.utf8 is.safe) (own-sgrs t is.none)
+
+no_link-cell : (t : List ℕ) → IsBare t → HasNoLink (cell t)
+no_link-cell t is = search (no_link-placed, is)
+
+no_link-paragraph : (t : List ℕ) → IsBare t → HasNoLink (paragraph t)
+no_link-paragraph t is = search (no_link-placed, is)
+
+pub no_link-closed_cell : (t : List ℕ) → IsBare t → HasNoLink (closed_cell t)
+no_link-closed_cell t is = no_link-closed (cell t) (no_link-cell t is)
 
 -- ---- padded, sliced and truncated texts
 
@@ -272,7 +264,7 @@ module _ (t : List ℕ) (none : HasNoLink t) where
 
 -- ---- the lines of a wrapped text
 
-abbrev NoneHasLink : List (List ℕ) → Type 0
+abbrev pub NoneHasLink : List (List ℕ) → Type 0
 NoneHasLink ts = AllByRecursion HasNoLink ts
 
 module _ (t : List ℕ) (none : HasNoLink t) where
@@ -281,20 +273,22 @@ module _ (t : List ℕ) (none : HasNoLink t) where
   line-none style test i is_style =
       let own = at_places test (marks t) in
       let end : HasNoLink (pen_end (link_after_all [] own) (after_marks style own)) = subst (λ link. HasNoLink (pen_end link (after_marks style own))) (sym (places-none t none test)) (no_link-close (after_marks style own)) in
-      either_text (i.0 == i.1 && length own == 0) [] _ no_link-nil (no_link-append (no_link-append (no_link-start style is_style) (no_link-interleaved t none test i.0 i.1)) end)
+      let text = interleaved (plain t) i.0 i.1 own in
+      either_text (i.0 == i.1 && length own == 0) [] (start style ++ [] ++ text ++ pen_end (link_after_all [] own) (after_marks style own)) no_link-nil
+      (no_link-append (no_link-append (no_link-append (no_link-start style is_style) no_link-nil) (no_link-interleaved t none test i.0 i.1)) end)
 
   lines-none : (style : Rendition) (link : List ℕ) (ms : List Mark) (test : ℕ → Bool) (is : List (ℕ × ℕ)) → link ≡ [] → ms ≡ at_places test (marks t) → IsStyle style
       → AllByRecursion (λ (l : CarriedPart). HasNoLink l.bytes) (lines_over style link (plain t) ms is)
   unfolding lines_over
-  lines-none style link ms test [] no are is_style = tt
-  lines-none style link ms test (i ∷ is) no are is_style =
+  lines-none style link ms test [] closed are is_style = tt
+  lines-none style link ms test (i ∷ is) closed are is_style =
       let own = if length is == 0 then ms else marks_up_to i.1 ms in
       let up_to : marks_up_to i.1 ms ≡ at_places (λ p. test p && nat_le p i.1) (marks t) = ap (marks_up_to i.1) are ∙ at_places-at_places (λ p. nat_le p i.1) test (marks t) in
       let past : marks_past (Some i.1) ms ≡ at_places (λ p. test p && nat_lt i.1 p) (marks t) = ap (marks_past (Some i.1)) are ∙ at_places-at_places (λ p. nat_lt i.1 p) test (marks t) in
       let own_are : (f : ℕ → Bool) × (own ≡ at_places f (marks t)) =
           cond_both (length is == 0) ms (marks_up_to i.1 ms) (λ ms. (f : ℕ → Bool) × (ms ≡ at_places f (marks t))) (λ last. (test, are)) (λ more. ((λ p. test p && nat_le p i.1), up_to)) in
-      let after : link_after_all link own ≡ [] = ap₂ link_after_all no own_are.1 ∙ places-none t none own_are.0 in (
-        subst (λ link. HasNoLink (line_over style link (plain t) own i).bytes) (sym no) (subst (λ ms. HasNoLink (line_over style [] (plain t) ms i).bytes) (sym own_are.1) (line-none style own_are.0 i is_style)),
+      let after : link_after_all link own ≡ [] = ap₂ link_after_all closed own_are.1 ∙ places-none t none own_are.0 in (
+        subst (λ link. HasNoLink (line_over style link (plain t) own i).bytes) (sym closed) (subst (λ ms. HasNoLink (line_over style [] (plain t) ms i).bytes) (sym own_are.1) (line-none style own_are.0 i is_style)),
         lines-none (after_marks style own) (link_after_all link own) (marks_past (Some i.1) ms) (λ p. test p && nat_lt i.1 p) is after past (IsStyle-apply_all style (map (λ (m : Mark). m.bytes) own) is_style),
       )
 
@@ -306,8 +300,44 @@ marks_every : (ms : List Mark) → ms ≡ at_places (λ p. true) ms
 marks_every [] = refl
 marks_every (m ∷ ms) = ap (λ ks. m ∷ ks) (marks_every ms)
 
-no_link-wrapped : (t : List ℕ) (width : ℕ) → HasNoLink t → NoneHasLink (map (λ (l : CarriedPart). l.bytes) (wrapped t width))
-no_link-wrapped t width none =
+no_link-wrapped : (t : List ℕ) (width : ℕ) → IsBare t → NoneHasLink (map (λ (l : CarriedPart). l.bytes) (wrapped t width))
+no_link-wrapped t width is_bare =
     let p = paragraph t in
     let is = lines width (plain p) in
-    lent-none (bytes_eq p t) (lines_over plain_style [] (plain p) (marks p) is) (lines-none p (no_link-placed Paragraph t none) plain_style [] (marks p) (λ p. true) is refl (marks_every (marks p)) IsStyle-plain_style)
+    lent-none (bytes_eq p t) (lines_over plain_style [] (plain p) (marks p) is) (lines-none p (no_link-paragraph t is_bare) plain_style [] (marks p) (λ p. true) is refl (marks_every (marks p)) IsStyle-plain_style)
+
+-- ---- expanded texts
+
+sgrs-expanded : (stop : ℕ) (x : List ℕ) (ps : List Piece) → list_all only_sgr ps ≡ true → list_all only_sgr (expanded_pieces stop x ps) ≡ true
+sgrs-expanded stop x [] all = refl
+sgrs-expanded stop x (Text w ∷ ps) all =
+    let v = run_expanded stop x w in
+    let qs = expanded_pieces stop (fold since_stop x w) ps in
+    list_all-append only_sgr (one_text v) qs ∙ and_from (list_all only_sgr (one_text v)) (list_all only_sgr qs) (bare_sgrs v) (sgrs-expanded stop (fold since_stop x w) ps all)
+sgrs-expanded stop x (Sequence w ∷ ps) all =
+    (let both = and_parts (is_sgr w) (list_all only_sgr ps) all in and_from (is_sgr w) (list_all only_sgr (expanded_pieces stop x ps)) both.0 (sgrs-expanded stop x ps both.1))
+sgrs-expanded stop x (LoneEscape ∷ ps) all = absurd (cc all)
+
+no_link-expanded : (stop : ℕ) (t : List ℕ) → IsBare t → HasNoLink (expanded stop t)
+no_link-expanded stop t is = record {
+  pieces = expanded_pieces stop [] (pieces_of t);
+  stand = good_stand Keep (expanded_pieces stop [] (pieces_of t)) (expanded-good stop [] (pieces_of t) (safe_are_good t is.utf8 is.safe));
+  sgrs = sgrs-expanded stop [] (pieces_of t) (own-sgrs t is.none);
+  spell = spelled-expanded stop [] (pieces_of t);
+}
+
+-- ---- so what a change makes of a text has no link, if its tail has none
+
+abbrev pub TailHasNoLink : Change → Type 0
+TailHasNoLink (OnColumns (columns.Truncated side width tail)) = HasNoLink (closed_cell tail)
+TailHasNoLink (OnColumns (columns.Fitted width alignment tail)) = HasNoLink (closed_cell tail)
+TailHasNoLink change = ⊤
+
+pub no_link-changed : (change : Change) (t : List ℕ) → TailHasNoLink change → IsBare t → NoneHasLink (changed change t)
+no_link-changed (OnColumns (columns.Expanded stop)) t tail is = (no_link-expanded stop t is, tt)
+no_link-changed (OnColumns (columns.Sliced start end)) t tail is = (no_link-sliced (cell t) (no_link-cell t is) start (unwrap_or end (columns (plain (cell t)))), tt)
+no_link-changed (OnColumns (columns.Truncated side width cut)) t tail is = (no_link-truncated_at (cell t) (no_link-cell t is) width (closed_cell cut) tail side, tt)
+no_link-changed (OnColumns (columns.Padded width alignment)) t tail is = (no_link-padded (cell t) width alignment (no_link-cell t is), tt)
+no_link-changed (OnColumns (columns.Fitted width alignment cut)) t tail is =
+    (no_link-padded (truncated (cell t) width (closed_cell cut)) width alignment (no_link-truncated (cell t) (no_link-cell t is) width (closed_cell cut) tail), tt)
+no_link-changed (Wrapped width) t tail is = no_link-wrapped t width is

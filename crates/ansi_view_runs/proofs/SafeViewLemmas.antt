@@ -253,7 +253,7 @@ shown-closed view opening line utf8 =
 
 -- The lines of an input have ends that may stand anywhere.
 
-abbrev IsEnd : List ℕ → Type 0
+abbrev pub IsEnd : List ℕ → Type 0
 IsEnd end = (end ≡ []) ⊎ ((end ≡ codes "\n") ⊎ (end ≡ codes "\r\n"))
 
 end-good : (links : Links) (end : List ℕ) → IsEnd end → IsGoodText links end
@@ -266,10 +266,10 @@ end-good links end is = elim is [
   ]
 ]
 
-abbrev HasEnd : Line × List ℕ → Type 0
+abbrev pub HasEnd : Line × List ℕ → Type 0
 HasEnd first = IsEnd first.0.end
 
-first-ends : (t : List ℕ) → HasEnd (first_line t)
+pub first-ends : (t : List ℕ) → HasEnd (first_line t)
 first-ends t =
     let n = position_or_len is_line_feed t in
     let carriage : HasEnd (record { text = take (n - 1) t; end = codes "\r\n" }, drop (n + 1) t) = inr (inr refl) in
@@ -278,29 +278,6 @@ first-ends t =
     let piece : HasEnd (split_unended (piece_len t) t) = inl refl in
     let last : HasEnd (split_unended n t) = inl refl in
     either HasEnd (nat_lt max_piece n) _ _ piece (either HasEnd (nat_lt n (length t)) _ _ ended last)
-
--- So what lines become is safe, by the policy if they are unchanged.
-
-module _ (work : Work) (unchanged : work.changes ≡ []) where
-  abbrev links : Links
-  links = work.view.policy.links
-
-  line-good : (opening : List ℕ) (line : Line) → IsUtf8 opening → IsEnd line.end → IsGoodText links (viewed work opening line)
-  line-good opening line utf8 end =
-      let text = shown-good work.view opening line utf8 in
-      subst (IsGoodText links) (sym (viewed-unchanged work opening line unchanged)) (good-append text (end-good links line.end end))
-
-  lines-good : (k : ℕ) (t opening : List ℕ) → IsUtf8 opening → IsGoodText links (viewed_all work opening (first_lines k t))
-  unfolding viewed_all
-  lines-good zero t opening utf8 = good-none links
-  lines-good (suc k) [] opening utf8 = good-none links
-  lines-good (suc k) (b ∷ bs) opening utf8 =
-      let first = first_line (b ∷ bs) in
-      good-append (line-good opening first.0 utf8 (first-ends (b ∷ bs))) (lines-good k first.1 (opening_after work.view opening first.0) (opening_after-utf8 work.view opening first.0 utf8))
-
-  pub view_of-policy : (input : List ℕ) → is_safe links (view_of work input) ≡ true
-  unfolding lines
-  view_of-policy input = good-safe (lines-good (length input) input [] IsUtf8-nil)
 
 -- With clean links kept, what any policy lets stay may stay.
 
@@ -314,7 +291,7 @@ kept-stays Remove (Sequence w) stays = or_left (is_sgr w) (is_clean_link w) stay
     or_left false b is = absurd (cc is)
 kept-stays Remove LoneEscape stays = stays
 
-kept-all : (kept : Links) (ps : List Piece) → list_all (may_stay kept) ps ≡ true → list_all (may_stay Keep) ps ≡ true
+pub kept-all : (kept : Links) (ps : List Piece) → list_all (may_stay kept) ps ≡ true → list_all (may_stay Keep) ps ≡ true
 kept-all kept [] all = refl
 kept-all kept (p ∷ ps) all =
     let both = and_parts (may_stay kept p) (list_all (may_stay kept) ps) all in

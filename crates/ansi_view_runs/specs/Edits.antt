@@ -1,7 +1,10 @@
 -- What edits by columns, and wraps, make of a text.
-use Rattle.std.specs.Prelude.{ℕ, Bool, false, List, [], ◌∷◌, map, fold, ⊤}
+use Rattle.std.specs.Prelude.{ℕ, Bool, false, List, [], ◌∷◌, map, fold, ⊤, IsTrue}
 use Rattle.std.specs.List.{flat_map}
+use Rattle.ansi_safe.specs.declared.policy.Links.{Links}
+use Rattle.ansi_safe.specs.Safe.{is_safe}
 use Rattle.ansi_columns.specs.Edits as columns
+use Rattle.ansi_columns.specs.Shown.{closed_cell}
 use Rattle.ansi_columns.specs.Wrapped.{wrapped}
 use Rattle.ansi_view_runs.specs.declared.edits.LineEdit.{LineEdit}
 use Rattle.ansi_view_runs.specs.declared.edits.LineEdit.TheVariants as edit
@@ -24,6 +27,12 @@ changes_of edits = map change_of edits
 abbrev pub HasUtf8Tail : Change → Type 0
 HasUtf8Tail (OnColumns change) = columns.HasUtf8Tail change
 HasUtf8Tail (Wrapped width) = ⊤
+
+-- what is shown of the tail of a change is allowed by what a policy makes of links
+abbrev pub HasTailBy : Links → Change → Type 0
+HasTailBy links (OnColumns (columns.Truncated side width tail)) = IsTrue (is_safe links (closed_cell tail))
+HasTailBy links (OnColumns (columns.Fitted width alignment tail)) = IsTrue (is_safe links (closed_cell tail))
+HasTailBy links change = ⊤
 
 -- TABs become blanks, and line ends stay; any other change makes texts on one line
 abbrev pub is_expansion : Change → Bool

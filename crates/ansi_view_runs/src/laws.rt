@@ -7,7 +7,7 @@ ghost use Rattle.ansi_safe.specs.Links.{IsClosed};
 ghost use Rattle.ansi_safe.specs.Safe.{is_safe};
 ghost use Rattle.ansi_columns.specs.OneLine.{is_one_line};
 ghost use Rattle.ansi_view_runs.specs.declared.view.View.{View};
-ghost use Rattle.ansi_view_runs.specs.Edits.{Change, HasUtf8Tail, is_expansion};
+ghost use Rattle.ansi_view_runs.specs.Edits.{Change, HasTailBy, HasUtf8Tail, is_expansion};
 ghost use Rattle.ansi_view_runs.specs.Edits.{changed, changed_in_turn};
 ghost use Rattle.ansi_view_runs.specs.Lines.{Line};
 ghost use Rattle.ansi_view_runs.specs.Promise.{IsViewed};
@@ -32,7 +32,8 @@ pub fn view_is_safe()
         IsSafeText (view_of (view_asked words) input) }
     ensures safe { (work : Work) (input : List ℕ) → All HasUtf8Tail work.changes →
         IsSafeText (view_of work input) }
-    ensures policy { (work : Work) (input : List ℕ) → work.changes ≡ [] →
+    ensures policy { (work : Work) (input : List ℕ) → All HasUtf8Tail work.changes →
+        All (HasTailBy work.view.policy.links) work.changes →
         IsTrue (is_safe work.view.policy.links (view_of work input)) }
 {}
 
