@@ -784,8 +784,8 @@ static inline ansi_str_answer ansi_str_blocks_begin(const char *text, size_t tex
    don't have, go into the buffer. So the text of ansi_str_block is what the buffer holds and then the run. ANSI_STR_NO:
    there is none left. With any status but ANSI_STR_OK `block` is empty and the walk is unchanged, so the call can be made
    again. A call reads up to the end of its block, so all blocks cost one walk. Allocates if there are such sequences.
-   The position of a run is the length of the runs before it. Its link is that of ansi_str_links whose range has this position,
-   and has then the whole run, since a sequence ends a run. */
+   The link of a run is that of ansi_str_links in whose range it is: a sequence ends a run, so no run is only partly in a range.
+   The position of a run is the length of all runs before it. */
 static inline ansi_str_answer ansi_str_blocks_next(ansi_str_block_walk *walk, ansi_str_next_block *block, char *buffer,
                                                    size_t buffer_len) {
     *block = ansi_str_no_block();
