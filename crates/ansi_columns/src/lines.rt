@@ -2,8 +2,7 @@
 ghost use Rattle.std.specs.Prelude.{◌≡◌, ◌+◌, ◌<◌, ◌≤◌, ◌∷◌, Some, IfSome, All};
 ghost use Rattle.std.specs.Prelude.{slice_range};
 ghost use Rattle.ansi_items.specs.Plain.{plain};
-ghost use Rattle.ansi_columns.specs.Lines.{lines, lines_left, is_line_end, is_blank, IsLine};
-ghost use Rattle.ansi_columns.specs.Lines.{IsGoodLine};
+ghost use Rattle.ansi_columns.specs.Lines.{lines_left, is_line_end, is_blank, IsLine, IsGoodLine};
 ghost use Rattle.ansi_columns.specs.Columns.{clusters};
 ghost use Rattle.ansi_columns.specs.FirstFit.{IsFirstFit};
 ghost use Rattle.ansi_columns.specs.Walks.{IsWalk, IsPrintable, IsPastAscii, cluster};
@@ -67,7 +66,6 @@ impl<'t> Lines<'t> {
     /// ```
     pub fn new(text: &'t str, width: usize) -> Lines<'t>
         ensures first_fit { IsFirstFit width (clusters (plain text.now)) result }
-        ensures lines { result ≡ lines width (plain text.now) }
         ensures each { All (IsLine (plain text.now) width) result }
         ensures good { All (IsGoodLine (plain text.now)) result }
     {

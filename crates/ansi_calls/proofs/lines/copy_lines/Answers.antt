@@ -1,12 +1,26 @@
-use Rattle.std.proofs.Common.{◌∙◌, ◌+◌, ◌∷◌, [], ◌++◌, length, take, drop, map, sym, ap, arith, append_assoc, length-append}
+use Rattle.std.proofs.Common.{◌∙◌, ◌+◌, ◌∷◌, [], ◌++◌, length, take, drop, map, refl, sym, ap, arith, append_assoc, length-append}
 use Rattle.std.proofs.lemmas.List.{length_push, length-map, map-append}
 use Rattle.ansi_items.specs.Plain.{plain}
 use Rattle.ansi_items.proofs.PlainLemmas.{length-plain}
 use Rattle.ansi_items.proofs.Utf8Lemmas.{IsUtf8-plain}
+use Rattle.ansi_columns.specs.Columns.{clusters}
+use Rattle.ansi_columns.specs.Lines.{lines}
+use Rattle.ansi_columns.proofs.FirstFitLawLemmas.{first_fit-unique}
+use Rattle.ansi_columns.proofs.FirstFitLemmas.{lines-first_fit}
 use Rattle.ansi_calls.specs.Columns.{line_entry}
 use Rattle.ansi_calls.proofs.GivenLemmas.{written-more}
 use Rattle.ansi_calls.proofs.LineListLemmas.{few-lines_of}
 use Rattle.ansi_calls.proofs.lines.copy_lines.Goals as goal
+
+-- first fit has these lines alone
+pub loop-line-init : goal.loop-line-init
+loop-line-init c =
+    let x = plain c.args.text.now in
+    record {
+      can = tt;
+      finite = tt;
+      copied = ([], first_fit-unique c.args.width (clusters x) c.new.result (lines c.args.width x) c.new.ensures.first_fit (lines-first_fit c.args.width x), refl, λ room. refl);
+    }
 
 -- there is at most one line more than the text has bytes
 pub put-count-requires : goal.put-count-requires
