@@ -9,6 +9,7 @@ pub mod CodeListLemmas
 pub mod RestyledLemmas
 pub mod RestyleWalkLemmas
 pub mod TurnLemmas
+pub mod MarkLemmas
 pub mod EmptyLemmas
 pub mod LengthLemmas
 mod LengthExamples

@@ -142,9 +142,6 @@ pub record IsRestyledSoFar (x whole done w : List ℕ) (style : Rendition) (plac
   pub is_left : IsLeft x place text
   pub turn : are_in_turn x place left ≡ true
 
-regroup : (a b c d : List ℕ) → ((a ++ b) ++ c) ++ d ≡ a ++ ((b ++ c) ++ d)
-regroup a b c d = ap (λ u. u ++ d) (append_assoc a b c) ∙ append_assoc a (b ++ c) d
-
 module _ {x whole done w : List ℕ} {style : Rendition} {place : ℕ} {text : List ℕ} {left : List (ℕ × ℕ)} (way : IsRestyledSoFar x whole done w style place text left) (r : ℕ × ℕ) (rs : List (ℕ × ℕ)) (is_first : left ≡ r ∷ rs) where
   pub first_range : AreFirst x place r rs
   first_range = are_first x place r rs (sym (ap (are_in_turn x place) is_first) ∙ way.turn)
@@ -152,27 +149,33 @@ module _ {x whole done w : List ℕ} {style : Rendition} {place : ℕ} {text : L
   pub good_at_start : IsTrue (no_character_goes_on (plain text) (r.0 - place))
   good_at_start = goes_on-left r.0 way.is_left first_range.begins ∙ first_range.good_start
 
-  pub good_at_end : {front after : List ℕ} → IsDivided text (r.0 - place) front after → IsTrue (no_character_goes_on (plain after) (r.1 - r.0))
-  good_at_end divided = goes_on-left r.1 (left-later way.is_left first_range.begins divided) first_range.ends ∙ first_range.good_end
+  divided_at_start : IsDivided text (r.0 - place) (front (r.0 - place) text) (rest (r.0 - place) text)
+  divided_at_start = record { good = good_at_start; front_is = refl; rest_is = refl }
 
-  pub restyled-step : {before after inner last done_1 done_2 : List ℕ} {there end : Rendition} → IsDivided text (r.0 - place) before after → there ≡ style_within style text (r.0 - place)
-      → IsDivided after (r.1 - r.0) inner last → end ≡ style_within there after (r.1 - r.0) → done_1 ≡ done ++ before → done_2 ≡ done_1 ++ changed_pieces w there (pieces_of inner)
-      → IsRestyledSoFar x whole done_2 w end r.1 last rs
-  restyled-step {before} {after} {inner} {last} {done_1} {done_2} {there} {end} divided is_there ended is_end wrote_1 wrote_2 =
+  left_at_start : IsLeft x r.0 (rest (r.0 - place) text)
+  left_at_start = left-later way.is_left first_range.begins divided_at_start
+
+  pub good_at_end : IsTrue (no_character_goes_on (plain (rest (r.0 - place) text)) (r.1 - r.0))
+  good_at_end = goes_on-left r.1 left_at_start first_range.ends ∙ first_range.good_end
+
+  pub restyled-range : {last done_1 : List ℕ} {end : Rendition}
+      → done_1 ≡ done ++ (front (r.0 - place) text ++ changed_pieces w (style_within style text (r.0 - place)) (pieces_of (front (r.1 - r.0) (rest (r.0 - place) text))))
+      → end ≡ style_within (style_within style text (r.0 - place)) (rest (r.0 - place) text) (r.1 - r.0) → last ≡ rest (r.1 - r.0) (rest (r.0 - place) text)
+      → IsRestyledSoFar x whole done_1 w end r.1 last rs
+  restyled-range {last} {done_1} {end} wrote is_end is_last =
       let n = r.0 - place in
       let m = r.1 - r.0 in
       let here = rest n text in
-      let style_there = style_within style text n in
-      let bytes : done_2 ≡ (done ++ front n text) ++ changed_pieces w style_there (pieces_of (front m here))
-      = wrote_2 ∙ ap₂ (λ u v. u ++ v) (wrote_1 ∙ ap (λ u. done ++ u) divided.front_is) (ap₂ (λ s u. changed_pieces w s (pieces_of u)) is_there (ended.front_is ∙ ap (front m) divided.rest_is)) in
-      let is_last : last ≡ rest m here = ended.rest_is ∙ ap (rest m) divided.rest_is in
-      let is_style : end ≡ style_within style_there here m = is_end ∙ ap₂ (λ s u. style_within s u m) is_there divided.rest_is in
+      let there = style_within style text n in
+      let changed = changed_pieces w there (pieces_of (front m here)) in
+      let later = restyled_from w (style_within there here m) r.1 (rest m here) rs in
+      let ended : IsDivided here m (front m here) last = record { good = good_at_end; front_is = refl; rest_is = is_last } in
       record {
         so_far =
-            ap₂ (λ u v. u ++ v) bytes (ap₂ (λ s u. restyled_from w s r.1 u rs) is_style is_last)
-            ∙ regroup done (front n text) (changed_pieces w style_there (pieces_of (front m here))) (restyled_from w (style_within style_there here m) r.1 (rest m here) rs)
+            ap₂ (λ u v. u ++ v) wrote (ap₂ (λ s u. restyled_from w s r.1 u rs) is_end is_last)
+            ∙ append_assoc done (front n text ++ changed) later
             ∙ ap (λ l. done ++ restyled_from w style place text l) (sym is_first) ∙ way.so_far;
-        is_left = left-later (left-later way.is_left first_range.begins divided) first_range.ends ended;
+        is_left = left-later left_at_start first_range.ends ended;
         turn = first_range.later;
       }
 

@@ -1,20 +1,23 @@
 //! Parts of a text in another style.
 ghost use Rattle.std.specs.Prelude.{◌≡◌, ◌↔◌, ◌⊎◌, ◌++◌, ◌&&◌, ◌<◌, ◌≤◌, ◌+◌, ◌-◌, ◌*◌, ◌^◌, []};
-ghost use Rattle.std.specs.Prelude.{filter, length, IfOk, IfSome, IsFalse};
+ghost use Rattle.std.specs.Prelude.{Some, filter, length, IfOk, IfSome, IsFalse};
 ghost use Rattle.std.specs.Prelude.{IsNone, IsOk, IsTrue, OnOk, string_bytes};
+ghost use Rattle.std.specs.Str.{IsUtf8};
 ghost use Rattle.std.specs.Cow.{cow_str_bytes, IsBorrowedStr};
 ghost use Rattle.ansi_items.specs.Pieces.{pieces_of};
 ghost use Rattle.ansi_items.specs.Plain.{plain, is_text, is_whole};
 ghost use Rattle.ansi_items.specs.Sequences.{is_sgr};
+ghost use Rattle.ansi_search.specs.Matches.{first_match_from};
+ghost use Rattle.ansi_search.specs.Positions.{no_character_goes_on};
+ghost use Rattle.ansi_style.specs.Reading.{style_within};
 ghost use Rattle.ansi_style.specs.States.{rendition_of};
 ghost use Rattle.ansi_style.specs.Written.{written};
 ghost use Rattle.ansi_restyle.specs.Matches.{matches};
 ghost use Rattle.ansi_safe.specs.declared.policy.Links.{Links};
 ghost use Rattle.ansi_safe.specs.Safe.{is_safe};
 ghost use Rattle.ansi_restyle.specs.Ranges.{are_in_turn, are_empty, keep_line_ends};
-ghost use Rattle.ansi_restyle.specs.Restyled.{is_change, changed_run, changed_pieces, restyled, IsRestyled};
+ghost use Rattle.ansi_restyle.specs.Restyled.{is_change, changed_run, changed_pieces, front, rest, restyled, IsRestyled};
 
-use crate::matches::Matches;
 use crate::rest::Rest;
 use ansi_items::ansitok::{Kind, Scanner};
 use ansi_search::search;
@@ -57,8 +60,13 @@ pub fn restyle_in<'t, A: Allocator + Copy>(
     if !is_change(codes) || !are_in_turn(text, ranges) {
         return Ok(None);
     }
-    let restyled = restyled_in(alloc, text, ranges, codes)?;
-    Ok(Some(restyled))
+    if are_empty(ranges) {
+        return Ok(Some(CowStr::Borrowed(text)));
+    }
+    let change = sequence_of(alloc, codes)?;
+    let mut restyled = String::with_capacity(alloc, text.len())?;
+    push_restyled(&mut restyled, text, ranges, change.as_str())?;
+    Ok(Some(CowStr::Owned(restyled)))
 }
 
 /// Like `AnsiRestyle::ansi_mark`, with a result that lives as long as the text, and with any
@@ -96,57 +104,14 @@ pub fn mark_in<'t, A: Allocator + Copy>(
     if pat.is_empty() {
         return Ok(Some(CowStr::Borrowed(text)));
     }
-    let ranges = matches_of(alloc, text, pat)?;
-    let marked = restyled_in(alloc, text, ranges.as_slice(), codes)?;
-    Ok(Some(marked))
-}
-
-/// A text with a change in ranges, borrowed if each of them is empty.
-fn restyled_in<'t, A: Allocator + Copy>(
-    alloc: A,
-    text: &'t str,
-    ranges: &[(usize, usize)],
-    codes: &str,
-) -> Result<CowStr<'t, A>, AllocError>
-    requires change { IsTrue (is_change codes.now) }
-    requires ranges { IsTrue (are_in_turn (plain text.now) 0 ranges.now) }
-    ensures headline { IsTrue (is_whole text.now) → IfOk result (λ c.
-        IsRestyled text.now (written codes.now) ranges.now (cow_str_bytes c)) }
-    ensures bytes { IfOk result (λ c.
-        cow_str_bytes c ≡ restyled text.now (written codes.now) ranges.now) }
-    ensures borrowed { IfOk result (λ c. IsBorrowedStr c ↔ IsTrue (are_empty ranges.now)) }
-    ensures len { IfOk result (λ c. length (cow_str_bytes c) ≤ length text.now
-        + (length codes.now + 254)
-        * (length ranges.now + length (filter is_text (pieces_of text.now)) - 1)) }
-    ensures safe { (links : Links) → IsTrue (is_safe links text.now) →
-        IsTrue (keep_line_ends (plain text.now) ranges.now) →
-        IfOk result (λ c. IsTrue (is_safe links (cow_str_bytes c))) }
-    ensures takes_no_memory { IsTrue (are_empty ranges.now) → IsOk result }
-{
-    if are_empty(ranges) {
-        return Ok(CowStr::Borrowed(text));
-    }
+    let left = Rest::new(text);
+    let Some(first) = left.find(pat, 0) else {
+        return Ok(Some(CowStr::Borrowed(text)));
+    };
     let change = sequence_of(alloc, codes)?;
-    let mut restyled = String::with_capacity(alloc, text.len())?;
-    push_restyled(&mut restyled, text, ranges, change.as_str())?;
-    Ok(CowStr::Owned(restyled))
-}
-
-/// The matches of a pattern in a text.
-fn matches_of<A: Allocator>(
-    alloc: A,
-    text: &str,
-    pat: &str,
-) -> Result<Vec<(usize, usize), A>, AllocError>
-    ensures matches { IfOk result (λ v. v.items ≡ matches (plain text.now) pat.now) }
-    ensures in_turn { IsTrue (are_in_turn (plain text.now) 0 (matches (plain text.now) pat.now)) }
-    ensures takes_no_memory { matches (plain text.now) pat.now ≡ [] → IsOk result }
-{
-    let mut ranges = Vec::new(alloc);
-    for range in Matches::new(text, pat) {
-        ranges.push(range)?;
-    }
-    Ok(ranges)
+    let mut marked = String::with_capacity(alloc, text.len())?;
+    push_marked(&mut marked, left, first, pat, change.as_str())?;
+    Ok(Some(CowStr::Owned(marked)))
 }
 
 /// Whether the text is a list of SGR codes.
@@ -210,20 +175,70 @@ fn push_restyled<A: Allocator>(
     let mut rest = Rest::new(text);
     let mut place = 0;
     for &(start, end) in ranges {
-        let at_start = rest.split_at(&mut style, start - place).unwrap();
-        out.push_str(at_start.front)?;
-        let mut style_at_end = style;
-        let at_end = at_start
-            .rest
-            .split_at(&mut style_at_end, end - start)
-            .unwrap();
-        push_changed(out, at_end.front, style, change)?;
-        style = style_at_end;
-        rest = at_end.rest;
+        rest = push_range(out, &rest, &mut style, start - place, end - start, change)?;
         place = end;
     }
     out.push_str(rest.text)?;
     Ok(())
+}
+
+/// Appends what is left of a text with a change in each match of a pattern that isn't empty. The
+/// first match begins at `first`. `Err` means out of memory; what was appended before it stays.
+fn push_marked<A: Allocator>(
+    out: &mut String<A>,
+    left: Rest<'_>,
+    first: usize,
+    pat: &str,
+    change: &str,
+) -> Result<(), AllocError>
+    requires change { IsTrue (is_sgr change.now) }
+    requires pat { 0 < length pat.now }
+    requires first { Some first ≡ first_match_from (plain left.text.now) pat.now 0 }
+    requires utf8 { IsUtf8 (plain left.text.now) }
+    ensures { OnOk result (string_bytes out.new ≡ string_bytes out.old
+        ++ restyled left.entry.text.now change.now (matches (plain left.entry.text.now) pat.now)) }
+{
+    let mut style = styles::plain_style();
+    let mut left = left;
+    let mut next = Some(first);
+    'matches: while let Some(place) = next {
+        left = push_range(out, &left, &mut style, place, pat.len(), change)?;
+        next = left.find(pat, 0);
+    }
+    out.push_str(left.text)?;
+    Ok(())
+}
+
+/// Appends what is left of a text up to the end of a range, with a change in the range, and returns
+/// what follows it. The range begins at the position `start` and is `len` bytes long. `style` is the
+/// style before the text, and then that at the end of the range. `Err` means out of memory; what was
+/// appended before it stays.
+fn push_range<'t, A: Allocator>(
+    out: &mut String<A>,
+    left: &Rest<'t>,
+    style: &mut Style,
+    start: usize,
+    len: usize,
+    change: &str,
+) -> Result<Rest<'t>, AllocError>
+    requires change { IsTrue (is_sgr change.now) }
+    requires start { IsTrue (no_character_goes_on (plain left.now.text.now) start) }
+    requires end { IsTrue (no_character_goes_on (plain (rest start left.now.text.now)) len) }
+    ensures bytes { OnOk result (string_bytes out.new ≡ string_bytes out.old
+        ++ (front start left.now.text.now
+        ++ changed_pieces change.now (style_within (rendition_of style.old) left.now.text.now start)
+        (pieces_of (front len (rest start left.now.text.now))))) }
+    ensures left { IfOk result (λ r. r.text.now ≡ rest len (rest start left.now.text.now)) }
+    ensures style { OnOk result (rendition_of style.new
+        ≡ style_within (style_within (rendition_of style.old) left.now.text.now start)
+        (rest start left.now.text.now) len) }
+{
+    let at_start = left.split_at(style, start).unwrap();
+    out.push_str(at_start.front)?;
+    let style_at_start = *style;
+    let at_end = at_start.rest.split_at(style, len).unwrap();
+    push_changed(out, at_end.front, style_at_start, change)?;
+    Ok(at_end.rest)
 }
 
 /// Appends a text with a change in each of its runs. `style` is the style before it. `Err` means out
