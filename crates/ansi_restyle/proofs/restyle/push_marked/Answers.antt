@@ -1,4 +1,3 @@
-use Rattle.std.proofs.Common.{refl, ap}
 use Rattle.ansi_restyle.proofs.MarkLemmas.{match_start, match_end, less_left, marked-step, marked-end}
 use Rattle.ansi_restyle.proofs.restyle.push_marked.Goals as goal
 

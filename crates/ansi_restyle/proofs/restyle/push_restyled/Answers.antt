@@ -1,8 +1,6 @@
-use Rattle.std.proofs.Common.{◌≡◌, ◌+◌, ◌-◌, drop, refl}
+use Rattle.std.proofs.Common.{◌+◌, drop}
 use Rattle.std.proofs.lemmas.List.{drop_more}
 use Rattle.std.specs.List.{slice_index_or}
-use Rattle.ansi_restyle.specs.Rests.{IsDivided}
-use Rattle.ansi_restyle.specs.Restyled.{front, rest}
 use Rattle.ansi_restyle.proofs.TurnLemmas.{first_range, good_at_start, good_at_end, restyled-range}
 use Rattle.ansi_restyle.proofs.restyle.push_restyled.Goals as goal
 
