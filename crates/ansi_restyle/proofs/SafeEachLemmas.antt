@@ -67,11 +67,11 @@ module _ (links : Links) where
   good_cut : (y : List ℕ) (d : ℕ) → AreGood links (pieces_of y) → d ≤ length (plain y) → no_character_goes_on (plain y) d ≡ true → parts_line_end (plain y) d ≡ false → IsGoodCut y d (place_after d y)
   good_cut y d good fits here apart = elim (cases_lt 0 d) [
     | inl some ↦ subst (IsGoodCut y d) (sym (place_after-some y d some)) (record {
-        good_before = up_to_place_good links y d good fits here apart;
-        good_after = from_place_good links y d good fits here;
-        plain_before = plain-up_to_place y d;
-        plain_after = plain-after_place y d fits;
-      })
+      good_before = up_to_place_good links y d good fits here apart;
+      good_after = from_place_good links y d good fits here;
+      plain_before = plain-up_to_place y d;
+      plain_after = plain-after_place y d fits;
+    })
     | inr none ↦ (
         let zero_is : 0 ≡ d = omega (arith, none) in
         subst (λ e. IsGoodCut y e (place_after e y)) zero_is (record { good_before = tt; good_after = good; plain_before = refl; plain_after = refl }))
@@ -128,8 +128,8 @@ module _ (links : Links) where
       let good = safe_good links t (pieces_of t) (pieces_are t) utf8 safe in
       let here : no_character_goes_on x 0 ≡ true = no_character_goes_on-boundary x 0 (IsCharBoundary-start x (IsUtf8-plain t utf8)) in
       let made = made-append links
-          (made-front links t 0 good here (parts-front x 0 refl))
-          (each_made x es (style_at t 0) (link_at t 0) (rest 0 t) 0 0 swaps (IsStyle-style_at t 0) (open_good-at links t 0 good) (rest_good links t 0 good here) (plain-rest t 0) turn here outside) in
+      (made-front links t 0 good here (parts-front x 0 refl))
+      (each_made x es (style_at t 0) (link_at t 0) (rest 0 t) 0 0 swaps (IsStyle-style_at t 0) (open_good-at links t 0 good) (rest_good links t 0 good here) (plain-rest t 0) turn here outside) in
       subst (λ u. is_safe links u ≡ true) made.bytes (good_are_safe links made.pieces made.good)
 
   pub safe-replaced_all : (t p w : List ℕ) → IsUtf8 t → IsUtf8 p → IsUtf8 w → (is_safe links t && is_safe links w) ≡ true → begin_outside_line_ends (plain t) (matches (plain t) p) ≡ true → is_safe links (replaced_all t p w) ≡ true

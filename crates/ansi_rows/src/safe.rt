@@ -54,7 +54,11 @@ impl SafeCall {
 /// what closes it.
 fn check_pen(check: &mut Check<'_>, text: &str) {
     let pen = pen_after(text);
-    let link = if is_safe(pen.link, Links::Keep) { pen.link } else { "" };
+    let link = if is_safe(pen.link, Links::Keep) {
+        pen.link
+    } else {
+        ""
+    };
     let start = format!(in check.alloc; "{}{link}", pen.style.start());
     check.written(start);
     let address = address_of(pen.link.as_bytes()).unwrap_or(b"");

@@ -240,7 +240,7 @@ module _ (t : List ℕ) (none : HasNoLink t) where
       let x = plain t in
       let to = bytes_up_to x b in
       let middle : HasNoLink (slice_middle t a b) =
-          subst (λ ms. HasNoLink (interleaved x (bytes_from x a) to ms)) (sym (marks_past-places (opened_at x a) to (marks t))) (no_link-interleaved t none (own_places (opened_at x a) to) (bytes_from x a) to) in
+      subst (λ ms. HasNoLink (interleaved x (bytes_from x a) to ms)) (sym (marks_past-places (opened_at x a) to (marks t))) (no_link-interleaved t none (own_places (opened_at x a) to) (bytes_from x a) to) in
       either_text (has_no_column x a b) [] (slice_opening t a b ++ slice_middle t a b ++ slice_closing t a b) no_link-nil
       (no_link-append (no_link-append (no_link-append (no_link-pen_open (opened_at x a)) (no_link-blanks (blanks_before x a b))) middle) (no_link-append (no_link-blanks (blanks_after x a b)) (no_link-pen_close t none to)))
 
@@ -286,7 +286,7 @@ module _ (t : List ℕ) (none : HasNoLink t) where
       let up_to : marks_up_to i.1 ms ≡ at_places (λ p. test p && nat_le p i.1) (marks t) = ap (marks_up_to i.1) are ∙ at_places-at_places (λ p. nat_le p i.1) test (marks t) in
       let past : marks_past (Some i.1) ms ≡ at_places (λ p. test p && nat_lt i.1 p) (marks t) = ap (marks_past (Some i.1)) are ∙ at_places-at_places (λ p. nat_lt i.1 p) test (marks t) in
       let own_are : (f : ℕ → Bool) × (own ≡ at_places f (marks t)) =
-          cond_both (length is == 0) ms (marks_up_to i.1 ms) (λ ms. (f : ℕ → Bool) × (ms ≡ at_places f (marks t))) (λ last. (test, are)) (λ more. ((λ p. test p && nat_le p i.1), up_to)) in
+      cond_both (length is == 0) ms (marks_up_to i.1 ms) (λ ms. (f : ℕ → Bool) × (ms ≡ at_places f (marks t))) (λ last. (test, are)) (λ more. ((λ p. test p && nat_le p i.1), up_to)) in
       let after : link_after_all link own ≡ [] = ap₂ link_after_all closed own_are.1 ∙ places-none t none own_are.0 in (
         subst (λ link. HasNoLink (line_over style link (plain t) own i).bytes) (sym closed) (subst (λ ms. HasNoLink (line_over style [] (plain t) ms i).bytes) (sym own_are.1) (line-none style own_are.0 i is_style)),
         lines-none (after_marks style own) (link_after_all link own) (marks_past (Some i.1) ms) (λ p. test p && nat_lt i.1 p) is after past (IsStyle-apply_all style (map (λ (m : Mark). m.bytes) own) is_style),

@@ -115,7 +115,7 @@ made-promised : (change : Change) (changes : List Change) (t : List ℕ) (r : Ro
     → AllOnLine (changed_in_turn (change ∷ changes) t) × (map row (changed_in_turn (change ∷ changes) t) ≡ fold (λ rs change. flat_map (changed_rows change) rs) (r ∷ []) (change ∷ changes))
 made-promised change changes t r tails made =
     let first : AreMade (changed change t ++ []) (changed_rows change r ++ []) =
-        subst (λ ts. AreMade ts (changed_rows change r ++ [])) (sym (append-nil (changed change t))) (subst (AreMade (changed change t)) (sym (append-nil (changed_rows change r))) made) in
+    subst (λ ts. AreMade ts (changed_rows change r ++ [])) (sym (append-nil (changed change t))) (subst (AreMade (changed change t)) (sym (append-nil (changed_rows change r))) made) in
     let all = made-fold changes (changed change t ++ []) (changed_rows change r ++ []) tails first in
     (shown-on_line _ all.shown, all.rows)
 
