@@ -1,5 +1,5 @@
 -- The tails that words ask for are UTF-8, as the words are.
-use Rattle.std.proofs.Common.{◌≡◌, ℕ, ◌+◌, ◌<◌, List, [], ◌∷◌, ◌++◌, All, take, drop, fold, codes, bytes_eq, Option, Some, None, unwrap_or, refl, eqb-true, arith, get_or}
+use Rattle.std.proofs.Common.{◌≡◌, ℕ, ◌+◌, ◌<◌, List, [], ◌∷◌, ◌++◌, All, true, map, subst, take, drop, fold, codes, bytes_eq, Option, Some, None, unwrap_or, refl, eqb-true, arith, get_or}
 use Rattle.std.specs.Prelude.{⊤}
 use Rattle.std.specs.List.{AllByRecursion, position}
 use Rattle.std.specs.Option.{option_map, option_and_then, option_map_or}
@@ -10,10 +10,23 @@ use Rattle.std.proofs.lemmas.List.Quantifiers.{position-Some}
 use Rattle.std.proofs.lemmas.Str.{IsUtf8-nil, IsUtf8-take, IsUtf8-drop, IsCharBoundary-before_ascii, IsCharBoundary-after_ascii}
 use Rattle.ansi_lines_runs.specs.Words.{is_colon, at_colon, field_number, end_of}
 use Rattle.ansi_columns.specs.declared.sides.Side.TheVariants.{End}
-use Rattle.ansi_columns.specs.Edits.{Expanded, Sliced, Truncated}
-use Rattle.ansi_view_runs.specs.Edits.{Change, OnColumns, Wrapped, HasUtf8Tail}
+use Rattle.ansi_columns.specs.Edits.{Expanded, Sliced, Truncated, Padded, Fitted}
+use Rattle.ansi_columns.specs.Shown.{closed_cell}
+use Rattle.ansi_columns.proofs.OneLineLemmas.{clean-safe}
+use Rattle.ansi_columns.proofs.TailLemmas.{shown-cell}
+use Rattle.ansi_items.specs.Pieces.{pieces_of}
+use Rattle.ansi_safe.specs.declared.policy.Links.{Links}
+use Rattle.ansi_safe.specs.declared.policy.Links.TheVariants.{Keep, Remove}
+use Rattle.ansi_safe.specs.declared.policy.Policy.{Policy}
+use Rattle.ansi_safe.specs.Safe.{is_safe}
+use Rattle.ansi_safe.specs.Sanitized.{sanitized}
+use Rattle.ansi_safe.proofs.SafeLemmas.{sanitized-is_safe}
+use Rattle.ansi_view_runs.specs.Edits.{Change, OnColumns, Wrapped, HasUtf8Tail, HasTailBy, tail_of, with_tail}
 use Rattle.ansi_view_runs.specs.Views.{Work}
-use Rattle.ansi_view_runs.specs.Words.{padded_to, slice_of, truncate_of, change_named, change_asked, first_work, with_word, view_asked}
+use Rattle.ansi_view_runs.specs.Words.{padded_to, slice_of, truncate_of, change_named, change_asked, first_work, with_word, work_named, view_asked}
+use Rattle.ansi_view_runs.proofs.NoLinkLemmas.{IsBare, no_link-closed_cell}
+use Rattle.ansi_view_runs.proofs.PolicyLemmas.{no_link-safe, safe-no_link}
+use Rattle.ansi_view_runs.proofs.SafeViewLemmas.{sanitized-utf8, kept-all}
 
 -- both parts of a text at a colon
 
@@ -102,5 +115,56 @@ tails-words : (work : Work) (words : List (List ℕ)) → HasTails work → AllB
 tails-words work [] tails are = tails
 tails-words work (word ∷ words) tails are = tails-words (with_word work word) words (tails-word work word tails are.0) are.1
 
+tails-named : (words : List (List ℕ)) → All IsUtf8 words → HasTails (work_named words)
+tails-named words are = tails-words first_work words tt (recursion_from_All IsUtf8 words are)
+
+-- ---- and are made safe
+
+module _ (policy : Policy) where
+  abbrev safe_change : Change → Change
+  safe_change change = with_tail (sanitized policy (tail_of change)) change
+
+  utf8-safe : (change : Change) → HasUtf8Tail change → HasUtf8Tail (safe_change change)
+  utf8-safe (OnColumns (Expanded stop)) tail = tt
+  utf8-safe (OnColumns (Sliced start end)) tail = tt
+  utf8-safe (OnColumns (Truncated side width cut)) tail = sanitized-utf8 policy cut tail
+  utf8-safe (OnColumns (Padded width alignment)) tail = tt
+  utf8-safe (OnColumns (Fitted width alignment cut)) tail = sanitized-utf8 policy cut tail
+  utf8-safe (Wrapped width) tail = tt
+
+  cell-safe : (cut : List ℕ) → IsUtf8 cut → is_safe policy.links (closed_cell (sanitized policy cut)) ≡ true
+  cell-safe cut utf8 = by policy.links refl
+    where
+      by : (links : Links) → policy.links ≡ links → is_safe links (closed_cell (sanitized policy cut)) ≡ true
+      by Keep is = clean-safe (shown-cell (sanitized policy cut) (sanitized-utf8 policy cut utf8)).clean
+      by Remove is =
+          let t = sanitized policy cut in
+          let safe = sanitized-is_safe policy cut utf8 in
+          let t_utf8 = sanitized-utf8 policy cut utf8 in
+          let bare : IsBare t = record { utf8 = t_utf8; safe = kept-all policy.links (pieces_of t) safe; none = safe-no_link t (subst (λ links. is_safe links t ≡ true) is safe) } in
+          no_link-safe (closed_cell t) (clean-safe (shown-cell t t_utf8).clean) (no_link-closed_cell t bare)
+
+  tail-safe : (change : Change) → HasUtf8Tail change → HasTailBy policy.links (safe_change change)
+  tail-safe (OnColumns (Expanded stop)) tail = tt
+  tail-safe (OnColumns (Sliced start end)) tail = tt
+  tail-safe (OnColumns (Truncated side width cut)) tail = cell-safe cut tail
+  tail-safe (OnColumns (Padded width alignment)) tail = tt
+  tail-safe (OnColumns (Fitted width alignment cut)) tail = cell-safe cut tail
+  tail-safe (Wrapped width) tail = tt
+
+  utf8-safe_all : (changes : List Change) → AllByRecursion HasUtf8Tail changes → AllByRecursion HasUtf8Tail (map safe_change changes)
+  utf8-safe_all [] are = tt
+  utf8-safe_all (change ∷ changes) are = (utf8-safe change are.0, utf8-safe_all changes are.1)
+
+  tails-safe_all : (changes : List Change) → AllByRecursion HasUtf8Tail changes → AllByRecursion (HasTailBy policy.links) (map safe_change changes)
+  tails-safe_all [] are = tt
+  tails-safe_all (change ∷ changes) are = (tail-safe change are.0, tails-safe_all changes are.1)
+
 pub utf8_tails-asked : (words : List (List ℕ)) → All IsUtf8 words → All HasUtf8Tail (view_asked words).changes
-utf8_tails-asked words are = All-from_recursion HasUtf8Tail (view_asked words).changes (tails-words first_work words tt (recursion_from_All IsUtf8 words are))
+utf8_tails-asked words are =
+    (let work = work_named words in All-from_recursion HasUtf8Tail (view_asked words).changes (utf8-safe_all work.view.policy work.changes (tails-named words are)))
+
+pub safe_tails-asked : (words : List (List ℕ)) → All IsUtf8 words → All (HasTailBy (view_asked words).view.policy.links) (view_asked words).changes
+safe_tails-asked words are =
+    let work = work_named words in
+    All-from_recursion (HasTailBy work.view.policy.links) (view_asked words).changes (tails-safe_all work.view.policy work.changes (tails-named words are))

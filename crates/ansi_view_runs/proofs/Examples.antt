@@ -9,7 +9,7 @@ use Rattle.ansi_columns.specs.Edits.{Expanded, Sliced, Truncated, Padded}
 use Rattle.ansi_view_runs.specs.Edits.{OnColumns, Wrapped}
 use Rattle.ansi_view_runs.specs.Lines.{lines}
 use Rattle.ansi_view_runs.specs.Views.{viewed, opening_after}
-use Rattle.ansi_view_runs.specs.Words.{bad_word, view_asked}
+use Rattle.ansi_view_runs.specs.Words.{bad_word, work_named, view_asked}
 
 -- a carriage return directly before a line feed is part of the line end, and another one isn't
 pub lines-three : lines (codes "a\rb\r\n\nc")
@@ -42,12 +42,12 @@ pub view_asked-none : view_asked [] ≡ record { view = record { policy = record
 view_asked-none = refl
 
 -- words on columns, in their order, among others; a tail may have colons
-pub view_asked-changes : view_asked (codes "truncate:80:.:" ∷ codes "plain" ∷ codes "slice:007:" ∷ codes "truncate:5" ∷ codes "slice:1:2" ∷ codes "wrap:0" ∷ codes "pad:3" ∷ codes "expand:8" ∷ [])
+pub work_named-changes : work_named (codes "truncate:80:.:" ∷ codes "plain" ∷ codes "slice:007:" ∷ codes "truncate:5" ∷ codes "slice:1:2" ∷ codes "wrap:0" ∷ codes "pad:3" ∷ codes "expand:8" ∷ [])
     ≡ record {
       view = record { policy = record { rest = Drop; links = Remove }; plain = true };
       changes = OnColumns (Truncated End 80 (codes ".:")) ∷ OnColumns (Sliced 7 None) ∷ OnColumns (Truncated End 5 []) ∷ OnColumns (Sliced 1 (Some 2)) ∷ Wrapped 0 ∷ OnColumns (Padded 3 Left) ∷ OnColumns (Expanded 8) ∷ [];
     }
-view_asked-changes = refl
+work_named-changes = refl
 
 -- the first bad word
 pub bad_word-second : bad_word (codes "show" ∷ codes "Show" ∷ codes "x" ∷ []) ≡ Some (codes "Show")

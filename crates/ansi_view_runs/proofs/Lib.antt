@@ -7,10 +7,10 @@ pub mod StayLemmas
 pub mod JoinLemmas
 pub mod ExpandedLemmas
 pub mod ChangeLemmas
-pub mod AskedLemmas
 pub mod SafeViewLemmas
 pub mod RowLemmas
 pub mod LineFeedLemmas
 pub mod NoLinkLemmas
 pub mod PolicyLemmas
+pub mod AskedLemmas
 pub mod PromiseLemmas

@@ -19,13 +19,14 @@ use Rattle.ansi_columns.specs.Screens.{screen}
 use Rattle.ansi_columns.specs.Tabs.{expanded}
 use Rattle.ansi_columns.proofs.OneLineLemmas.{clean-one_line, safe_are_good}
 use Rattle.ansi_columns.proofs.TailLemmas.{IsShown}
-use Rattle.ansi_view_runs.specs.Edits.{Change, OnColumns, Wrapped, HasUtf8Tail, changed, changed_in_turn}
+use Rattle.ansi_view_runs.specs.Edits.{Change, OnColumns, Wrapped, HasUtf8Tail, HasTailBy, changed, changed_in_turn}
 use Rattle.ansi_view_runs.specs.Lines.{Line, first_line, first_lines, lines}
 use Rattle.ansi_view_runs.specs.Promise.{changed_rows, rows_in_turn, shown_rows, has_no_line_end, IsViewedLine, AreViewedLines, IsViewed}
 use Rattle.ansi_view_runs.specs.SafeTexts.{IsSafeText}
 use Rattle.ansi_view_runs.specs.Views.{Work, opening_after, shown, viewed, viewed_all, view_of}
 use Rattle.ansi_view_runs.proofs.ExpandedLemmas.{safe-expanded, all-expanded}
 use Rattle.ansi_view_runs.proofs.LineFeedLemmas.{HasNoFeed, none-first_line, none-plain, none-chars, none-opening_after, none-shown}
+use Rattle.ansi_view_runs.proofs.PolicyLemmas.{view_of-policy}
 use Rattle.ansi_view_runs.proofs.RowLemmas.{AreShown, AreMade, made-columns, made-wrapped, made-fold, screens-rows}
 use Rattle.ansi_view_runs.proofs.SafeViewLemmas.{opening_after-utf8, shown-text, edited-safe, view_of-safe}
 
@@ -141,7 +142,7 @@ promised (Wrapped width ∷ changes) t tails is none =
 
 -- ---- so each line keeps the promise, and all of them do
 
-module _ (work : Work) (tails : All HasUtf8Tail work.changes) where
+module _ (work : Work) (tails : All HasUtf8Tail work.changes) (by_policy : All (HasTailBy work.view.policy.links) work.changes) where
   line-viewed : (opening : List ℕ) (line : Line) → IsUtf8 opening → HasNoFeed opening → HasNoFeed line.text → IsViewedLine work opening line (viewed work opening line)
   line-viewed opening line utf8 before none =
       let t = shown work.view opening line in
@@ -175,4 +176,4 @@ module _ (work : Work) (tails : All HasUtf8Tail work.changes) where
   unfolding lines
   view_of-viewed input =
       let is = view_of-safe work tails input in
-      record { utf8 = is.utf8; safe = is.safe; lines = lines-viewed (length input) input [] IsUtf8-nil refl; closed = is.closed }
+      record { utf8 = is.utf8; safe = view_of-policy work tails by_policy input; lines = lines-viewed (length input) input [] IsUtf8-nil refl; closed = is.closed }

@@ -299,13 +299,16 @@ kept-all kept (p ∷ ps) all =
 
 -- The text of a line is safe, whatever changes are made of it.
 
+pub sanitized-utf8 : (policy : Policy) (t : List ℕ) → IsUtf8 t → IsUtf8 (sanitized policy t)
+sanitized-utf8 policy t utf8 =
+    let u = cleaned policy t in
+    let end = IsUtf8-append (link_end (link_of (marks u))) (close (style_after u)) (link_end-utf8 (link_of (marks u))) (close-utf8 (style_after u)) in
+    IsUtf8-append u (ending u) (cleaned-utf8 policy t utf8) end
+
 shown-utf8 : (view : View) (opening : List ℕ) (line : Line) → IsUtf8 opening → IsUtf8 (shown view opening line)
 shown-utf8 view opening line utf8 =
     let t = body view opening line.text in
-    let u = cleaned view.policy t in
-    let clean = cleaned-utf8 view.policy t (body-utf8 view opening line.text utf8) in
-    let end = IsUtf8-append (link_end (link_of (marks u))) (close (style_after u)) (link_end-utf8 (link_of (marks u))) (close-utf8 (style_after u)) in
-    either IsUtf8 (length line.text == 0) [] (sanitized view.policy t) IsUtf8-nil (IsUtf8-append u (ending u) clean end)
+    either IsUtf8 (length line.text == 0) [] (sanitized view.policy t) IsUtf8-nil (sanitized-utf8 view.policy t (body-utf8 view opening line.text utf8))
 
 pub shown-text : (view : View) (opening : List ℕ) (line : Line) → IsUtf8 opening → IsSafeText (shown view opening line)
 shown-text view opening line utf8 = record {

@@ -6,7 +6,7 @@ use Rattle.std.proofs.lemmas.Bool.{false_from_ne_true}
 use Rattle.std.proofs.lemmas.Slice.Eq.{bytes_eq-Decides}
 use Rattle.ansi_view_runs.specs.Edits.{Change}
 use Rattle.ansi_view_runs.specs.Views.{Work}
-use Rattle.ansi_view_runs.specs.Words.{change_asked, bad_word, with_word, view_asked}
+use Rattle.ansi_view_runs.specs.Words.{change_asked, bad_word, with_word, work_named}
 
 -- other bytes aren't the same
 other : (word name : List ℕ) → word ≢ name → bytes_eq word name ≡ false
@@ -31,7 +31,7 @@ with_word-change work word change not_show not_links not_plain asks =
 
 -- what is known of the words after a good word, if this is known of it and them
 pub record Asked (work : Work) (left all : List (List ℕ)) : Type 0 where
-  pub asked : fold with_word work left ≡ view_asked all
+  pub asked : fold with_word work left ≡ work_named all
   pub none_bad : bad_word left ≡ bad_word all
 
 pub Asked-next : (work work_then : Work) (word : List ℕ) (left more all : List (List ℕ)) → Asked work left all → left ≡ word ∷ more → with_word work word ≡ work_then → bad_word (word ∷ more) ≡ bad_word more

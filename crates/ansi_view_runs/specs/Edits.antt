@@ -28,6 +28,24 @@ abbrev pub HasUtf8Tail : Change → Type 0
 HasUtf8Tail (OnColumns change) = columns.HasUtf8Tail change
 HasUtf8Tail (Wrapped width) = ⊤
 
+-- the tail of a change; one that has none has an empty one
+abbrev pub tail_of : Change → List ℕ
+tail_of (OnColumns (columns.Truncated side width tail)) = tail
+tail_of (OnColumns (columns.Fitted width alignment tail)) = tail
+tail_of change = []
+
+-- a change with this tail in place of its own, if it has one
+abbrev pub with_tail : List ℕ → Change → Change
+with_tail tail (OnColumns (columns.Truncated side width other)) = OnColumns (columns.Truncated side width tail)
+with_tail tail (OnColumns (columns.Fitted width alignment other)) = OnColumns (columns.Fitted width alignment tail)
+with_tail tail change = change
+
+-- changes with these tails, one for each
+abbrev pub with_tails : List (List ℕ) → List Change → List Change
+with_tails tails [] = []
+with_tails [] (change ∷ changes) = []
+with_tails (tail ∷ tails) (change ∷ changes) = with_tail tail change ∷ with_tails tails changes
+
 -- what is shown of the tail of a change is allowed by what a policy makes of links
 abbrev pub HasTailBy : Links → Change → Type 0
 HasTailBy links (OnColumns (columns.Truncated side width tail)) = IsTrue (is_safe links (closed_cell tail))

@@ -3,7 +3,6 @@ use Rattle.std.specs.Prelude.{◌≡◌, ℕ, ◌==◌, Bool, not, ◌||◌, Lis
 use Rattle.std.specs.List.{flat_map, list_all, join_by}
 use Rattle.std.specs.Str.{IsUtf8, byte}
 use Rattle.ansi_items.specs.Plain.{plain}
-use Rattle.ansi_safe.specs.declared.policy.Links.TheVariants.{Keep}
 use Rattle.ansi_safe.specs.Cells.{paragraph}
 use Rattle.ansi_safe.specs.Links.{IsClosed}
 use Rattle.ansi_safe.specs.Safe.{is_safe}
@@ -55,6 +54,6 @@ AreViewedLines work opening (line ∷ more) output =
 -- whatever bytes come in, what goes out is UTF-8 and safe, line by line, shows what is asked of each line, and leaves nothing open
 pub record IsViewed (work : Work) (input output : List ℕ) : Type 0 where
   pub utf8 : IsUtf8 output
-  pub safe : IsTrue (is_safe Keep output)
+  pub safe : IsTrue (is_safe work.view.policy.links output)
   pub lines : AreViewedLines work [] (lines input) output
   pub closed : IsClosed output

@@ -1,5 +1,5 @@
 -- What is made of an input, line by line.
-use Rattle.std.specs.Prelude.{ℕ, ◌==◌, List, [], ◌∷◌, ◌++◌, length, codes, if◌then◌else◌}
+use Rattle.std.specs.Prelude.{ℕ, ◌==◌, List, [], ◌∷◌, ◌++◌, map, length, codes, if◌then◌else◌}
 use Rattle.std.specs.List.{join_by}
 use Rattle.std.specs.Str.Lossy.{utf8_lossy}
 use Rattle.ansi_items.specs.Plain.{plain, marks}
@@ -8,13 +8,17 @@ use Rattle.ansi_style.specs.Written.{start}
 use Rattle.ansi_safe.specs.Links.{link_of}
 use Rattle.ansi_safe.specs.Sanitized.{cleaned, sanitized}
 use Rattle.ansi_view_runs.specs.declared.view.View.{View}
-use Rattle.ansi_view_runs.specs.Edits.{Change, changed_in_turn}
+use Rattle.ansi_view_runs.specs.Edits.{Change, tail_of, with_tail, changed_in_turn}
 use Rattle.ansi_view_runs.specs.Lines.{Line, lines}
 
 -- the words ask for a view, by which each line is made safe, and for changes of what it then is, in turn
 pub record Work : Type 0 where
   pub view : View
   pub changes : List Change
+
+-- a tail is made safe by the policy, as the text of a line is (own)
+abbrev pub with_safe_tails : Work → Work
+with_safe_tails work = record work { changes = map (λ change. with_tail (sanitized work.view.policy (tail_of change)) change) work.changes }
 
 -- the text of bytes, with U+FFFD for each invalid sequence (std's `from_utf8_lossy`); a plain view strips it
 abbrev pub decoded : View → List ℕ → List ℕ

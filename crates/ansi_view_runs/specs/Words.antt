@@ -11,7 +11,7 @@ use Rattle.ansi_columns.specs.declared.shown.Alignment.TheVariants.{Left}
 use Rattle.ansi_columns.specs.declared.sides.Side.TheVariants.{End}
 use Rattle.ansi_columns.specs.Edits.{Expanded, Sliced, Truncated, Padded}
 use Rattle.ansi_view_runs.specs.Edits.{Change, OnColumns, Wrapped}
-use Rattle.ansi_view_runs.specs.Views.{Work}
+use Rattle.ansi_view_runs.specs.Views.{Work, with_safe_tails}
 
 -- a slice has a start and an end, with a colon between them
 abbrev pub slice_of : List ℕ → Option Change
@@ -61,9 +61,13 @@ with_word work word =
     else if bytes_eq word (codes "plain") then record work { view = record work.view { plain = true } }
     else option_map_or (λ change. record work { changes = work.changes ++ change ∷ [] }) (change_asked word) work
 
--- what words ask for together
+-- what words name together
+abbrev pub work_named : List (List ℕ) → Work
+work_named words = fold with_word first_work words
+
+-- what words ask for: what they name, with tails that are safe, whichever word comes first
 abbrev pub view_asked : List (List ℕ) → Work
-view_asked words = fold with_word first_work words
+view_asked words = with_safe_tails (work_named words)
 
 -- where the words are listed
 abbrev pub where_words_are : List ℕ

@@ -21,6 +21,7 @@ pub fn view_keeps_its_promise()
     ensures asked { (words : List (List ℕ)) (input : List ℕ) → All IsUtf8 words →
         IsViewed (view_asked words) input (view_of (view_asked words) input) }
     ensures of_work { (work : Work) (input : List ℕ) → All HasUtf8Tail work.changes →
+        All (HasTailBy work.view.policy.links) work.changes →
         IsViewed work input (view_of work input) }
 {}
 
