@@ -8,5 +8,6 @@ pub mod laws;
 pub mod lines;
 pub mod runs;
 pub mod stop;
+mod tails;
 pub mod view;
 pub mod words;

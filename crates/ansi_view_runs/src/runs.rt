@@ -15,6 +15,7 @@ ghost use Rattle.ansi_view_runs.specs.Runs.{KeepsFlags, MostFlushes, StopsReadin
 ghost use Rattle.ansi_view_runs.specs.Runs.{ViewsAll, ViewsBeginning, ViewsFront};
 ghost use Rattle.ansi_view_runs.specs.Stops.{message_of};
 ghost use Rattle.ansi_view_runs.specs.Views.{changed_line, decoded, opening_after, viewed};
+ghost use Rattle.ansi_view_runs.specs.Views.{with_safe_tails};
 ghost use Rattle.ansi_view_runs.specs.Words.{bad_word, message_of_word, view_asked};
 
 use crate::edits::{LineEdit, edit_up_to_wrap};
@@ -22,6 +23,7 @@ use crate::ended::{edit_further, end_text};
 use crate::lines::{Line, split_first};
 use crate::stop::{OUT_OF_MEMORY, Stop, write_message};
 use crate::view::{Job, as_decoded, decode_tested, edits_nothing, stays, view_decoded};
+use crate::tails::{safe_job, safe_tails};
 use crate::words::parse;
 use ansi_io::devices::{ReadFault, Sink, Source, WriteFault};
 use ansi_safe::policy::{Links, Policy, Rest};
@@ -340,6 +342,41 @@ fn view_all<A: Allocator + Copy, S: Source, W: Sink>(
     Err(Stop::ReadFailed)
 }
 
+// Like `view_all`, with the tails of edits made safe.
+fn view_safely<A: Allocator + Copy, S: Source, W: Sink>(
+    alloc: A,
+    job: &Job<'_, A>,
+    input: &mut S,
+    output: &mut W,
+) -> Result<(), Stop>
+    ensures done { OnOk result (ViewsAll (with_safe_tails (work_of job.now)) (S.left input.old) (W.taken output.old)
+        (W.taken output.new)) }
+    ensures flushed { OnOk result (W.flushed output.new ≡ W.taken output.new) }
+    ensures unfailed { OnOk result (S.failed input.new ≡ S.failed input.old) }
+    ensures flags { OnOk result (KeepsFlags (W.failed output.old) (W.failed output.new)
+        (W.closed output.old) (W.closed output.new)) }
+    ensures read_failed { IsErrOf result Stop.ReadFailed →
+        StopsReading (S.failed input.new) (S.reads input.new)
+        × ViewsFront (with_safe_tails (work_of job.now)) (S.left input.old) (W.taken output.old) (W.taken output.new)
+        × (W.flushed output.new ≡ W.taken output.new)
+        × KeepsFlags (W.failed output.old) (W.failed output.new) (W.closed output.old)
+        (W.closed output.new) }
+    ensures closed { IsErrOf result Stop.Closed →
+        (W.failed output.new ≡ true) × (W.closed output.new ≡ true) }
+    ensures write_failed { IsErrOf result Stop.WriteFailed →
+        (W.failed output.new ≡ true) × (W.closed output.new ≡ W.closed output.old) }
+    ensures out_of_memory { IsErrOf result Stop.OutOfMemory →
+        ViewsBeginning (with_safe_tails (work_of job.now)) (S.left input.old) (W.taken output.old)
+        (W.taken output.new) × KeepsFlags (W.failed output.old) (W.failed output.new)
+        (W.closed output.old) (W.closed output.new) }
+    ensures most_flushes { MostFlushes (S.reads input.old) (S.reads input.new)
+        (W.flushes output.old) (W.flushes output.new) }
+{
+    let tails = safe_tails(alloc, job.view.policy, job.edits.as_slice())?;
+    let job = safe_job(alloc, job, tails.as_slice())?;
+    view_all(alloc, &job, input, output)
+}
+
 /// Makes the input safe, line by line, as the words ask, and returns the status.
 ///
 /// It writes what each read decides, and passes it on, before the next read. What a line becomes
@@ -424,7 +461,7 @@ pub fn run<A: Allocator, S: Source, W: Sink, V: Sink>(
         V.taken faults.new ≡ append_known (V.taken faults.old) (message_of_word word)) }
 {
     match parse(&alloc, words) {
-        Ok(Ok(job)) => match view_all(&alloc, &job, input, output) {
+        Ok(Ok(job)) => match view_safely(&alloc, &job, input, output) {
             Ok(()) => 0,
             Err(stop) => stop.tell(input.cause(), output.cause(), faults),
         },

@@ -5,7 +5,7 @@ ghost use Rattle.ansi_lines_runs.specs.Runs.{words_of};
 ghost use Rattle.ansi_view_runs.specs.Edits.{change_of};
 ghost use Rattle.ansi_view_runs.specs.Jobs.{work_of};
 ghost use Rattle.ansi_view_runs.specs.Words.{bad_word, change_asked, change_named, slice_of};
-ghost use Rattle.ansi_view_runs.specs.Words.{padded_to, truncate_of, view_asked};
+ghost use Rattle.ansi_view_runs.specs.Words.{padded_to, truncate_of, work_named};
 
 use crate::edits::LineEdit;
 use crate::view::{Job, View};
@@ -14,7 +14,7 @@ use ansi_lines_runs::words::{parse_end, parse_number};
 use ansi_safe::policy::{Links, Policy, Rest};
 use std::alloc::{AllocError, Allocator};
 
-/// What the words ask for. The inner `Err` is the first bad word, the outer `Err` means that memory
+/// What the words name: the tails of edits are as they are given. The inner `Err` is the first bad word, the outer `Err` means that memory
 /// has run out.
 ///
 /// ```
@@ -27,7 +27,7 @@ pub fn parse<'w, A: Allocator>(
 ) -> Result<Result<Job<'w, A>, &'w str>, AllocError>
     ensures { IfOk result (λ parsed. MatchResult parsed
         (λ job. (bad_word (words_of words.now) ≡ None)
-        × (work_of job ≡ view_asked (words_of words.now)))
+        × (work_of job ≡ work_named (words_of words.now)))
         (λ word. bad_word (words_of words.now) ≡ Some word.now)) }
 {
     let mut policy = Policy {
