@@ -115,7 +115,9 @@ fn with_column_tail<'t>(edit: &ColumnEdit<'_>, tail: &'t str) -> ColumnEdit<'t>
             alignment: *alignment,
         },
         ColumnEdit::Fit {
-            width, alignment, ..
+            width,
+            alignment,
+            ..
         } => ColumnEdit::Fit {
             width: *width,
             alignment: *alignment,
