@@ -1,5 +1,6 @@
-"""What lines show, cell by cell: random texts, hostile ones among them, their edits by columns and their lines with indents, and for each
-result a text without a hostile byte that a terminal has to show alike. For `terminals`.
+"""What lines show, cell by cell: random texts, hostile ones among them, their edits by columns and their lines with indents, and texts
+with ranges in another style or link, replaced or removed; and for each result a text without a hostile byte that a terminal has to show
+alike. For `terminals`.
 
 A cell is a character, the SGRs since the last reset, and the sequence that opened its link. What is written here follows the pages; of the
 library it takes only the results, and where lines end."""
@@ -14,6 +15,7 @@ LINK = re.compile('\033\\]8;[ -:<-~]*;([ -~]*)(?:\a|\033\\\\)')
 LETTERS = list('abcdefgh' * 2 + '    ,,,' + 'XYZ09-_=') + ['汉', '字', 'é', 'e\u0301', 'a\u0308', 'ß', '→']
 CODES = '1 3 4 5 7 9 22 23 24 25 27 29 39 49 0'.split()
 LINKS = ['\033]8;;http://a/\033\\', '\033]8;id=1;http://b/\a', '\033]8;;\033\\', '\033]8;;\a']
+OTHER_SEQUENCES = ['\033]0;title\a', '\033[?25l', '\033[?2004h', '\033[2 q', '\033]2;t\033\\', '\033=']
 HOSTILE = ['\033[2J', '\033[H', '\033[3;7H', '\033[2K', '\033[5D', '\033[?25l', '\033[?1049h', '\033[?7l', '\033[4h', '\033(0', '\033c', '\033M',
            '\0337', '\033]0;title\a', '\033]52;c;eA==\a', '\033P$q q\033\\', '\033[6n', '\033]8;;h\001\a', '\033[>4;2m', '\033', '\033[',
            '\033[3', '\033]8;;http', '\033]0;t', '\033P', '\033(', '\a', '\b', '\016', '\177', '\x85', '\x9b', '\u202e', '\t', '\n', '\r\n', '\r', '\v', '\u0301']
@@ -143,18 +145,22 @@ def shown(row):
     return made + '\033[0m' + ('\033]8;;\033\\' if before[1] else '')
 
 
-def random_text(draw):
+def random_codes(draw):
     def color():
         base = draw.choice('34')
         return draw.choice([base + str(draw.randrange(8)), f'{base}8;5;{draw.randrange(256)}', f'{base}8;2;{draw.randrange(256)};1;{draw.randrange(256)}'])
 
+    return ';'.join(color() if draw.random() < 0.45 else draw.choice(CODES) for _ in range(draw.choice([1, 1, 2])))
+
+
+def random_text(draw, hostile=HOSTILE):
     def token():
         kind = draw.random()
         if kind < 0.6:
             return draw.choice(LETTERS)
         if kind < 0.78:
-            return '\033[' + ';'.join(color() if draw.random() < 0.45 else draw.choice(CODES) for _ in range(draw.choice([1, 1, 2]))) + 'm'
-        return draw.choice(LINKS) if kind < 0.85 else draw.choice(HOSTILE)
+            return '\033[' + random_codes(draw) + 'm'
+        return draw.choice(LINKS) if kind < 0.85 else draw.choice(hostile)
 
     return ''.join(token() for _ in range(draw.randrange(1, 26)))
 
@@ -173,8 +179,8 @@ def random_edit(library, draw):
     return library.Fit(draw.randrange(20), alignment, tail)
 
 
-def results(library, draw):
-    """What the calls make of a random text: the call with its words, the result, and the row that a terminal has to show."""
+def column_results(library, draw):
+    """What the calls on columns make of a random text: the call with its words, the result, and the row that a terminal has to show."""
     text = random_text(draw)
     edits = [random_edit(library, draw) for _ in range(draw.randrange(1, 5))]
     yield ('edit_columns', text, edits), library.edit_columns(text, edits), edited(library, text, edits)
@@ -195,3 +201,53 @@ def wrapped(library, text, wide):
     plain = ''.join(cell[0] for cell in row)
     for start, end in library.lines(plain, max(1, wide)):
         yield row[start:end]
+
+
+OTHERS = ['', 'x', '字', '\033[1mAB', '\033[31mA\033[mB', '\033[7;32mAB', '\033]8;;http://z/\aAB', 'A\033]8;;\033\\B']
+END = '\033[0m\033]8;;\033\\'
+
+
+def pen_after(text):
+    return row_of(text + ' ')[-1][1:]
+
+
+def put(row, place, with_, last):
+    """The cells of another text in the style and the link of the cell before a place, or of the first one."""
+    pen, link = (row[max(0, place - 1)] if row else (None,) + last)[1:]
+    return row_of(''.join(pen) + link + with_)
+
+
+def replaced(row, ranges, with_, last):
+    made, end = [], 0
+    for start, until in ranges:
+        made += row[end:start] + put(row, start, with_, last)
+        end = until
+    return made + row[end:]
+
+
+def changed(row, ranges, change):
+    return [change(cell) if any(start <= place < end for start, end in ranges) else cell for place, cell in enumerate(row)]
+
+
+def range_results(library, draw):
+    """What the calls on ranges, matches and links make of a random text without hostile bytes: as `column_results`. A letter is at the end
+    of the result, in what is open there, and then that is closed."""
+    text = random_text(draw, OTHER_SEQUENCES)
+    row, plain = row_of(text), library.strip(text)
+    start, end = sorted(draw.randrange(len(row) + 1) for _ in range(2))
+    places = sorted(draw.randrange(len(row) + 1) for _ in range(2 * draw.randrange(1, 4)))
+    ranges, last = list(zip(places[::2], places[1::2])), pen_after(text)
+    pattern, codes, with_ = draw.choice(['a', 'b', ' ', ',', 'ab', '']), random_codes(draw), draw.choice(OTHERS)
+    matches = [found.span() for found in re.finditer(re.escape(pattern), plain)]
+    restyled = lambda cell: (cell[0], () if not codes.strip('0') else cell[1] + ('\033[' + codes + 'm',), cell[2])
+    linked = lambda cell: cell[:2] + ('\033]8;;http://new/\033\\',)
+    for name, answer, cells, open_ in [
+            (('restyle', text, ranges, codes), library.restyle(text, ranges, codes), changed(row, ranges, restyled), last),
+            (('mark', text, pattern, codes), library.mark(text, pattern, codes), changed(row, matches, restyled), last),
+            (('remove', text, start, end), library.remove(text, start, end), row[:start] + row[end:], last),
+            (('replace', text, start, end, with_), library.replace(text, start, end, with_), replaced(row, [(start, end)], with_, last), last),
+            (('insert', text, start, with_), library.insert(text, start, with_), replaced(row, [(start, start)], with_, last), last),
+            (('replace_all', text, pattern, with_), library.replace_all(text, pattern, with_), replaced(row, matches, with_, last), last),
+            (('link', text, start, end), library.link(text, start, end, 'http://new/'), changed(row, [(start, end)], linked), last),
+            (('unlink', text), library.unlink(text), changed(row, [(0, len(row))], lambda cell: cell[:2] + ('',)), (last[0], ''))]:
+        yield name, answer + 'y' + END, cells + [('y',) + open_]
