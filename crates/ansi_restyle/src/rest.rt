@@ -47,11 +47,15 @@ impl<'t> Rest<'t> {
     pub(crate) fn find(&self, pat: &str, from: usize) -> Option<usize>
         ensures { result ≡ first_match_from (plain self.now.text.now) pat.now from }
     {
-        let (run, _) = self.text.split_at(self.run_len);
-        match search::first_in_run(run, pat, from) {
-            Some(place) => Some(place),
-            None => search::find_from(self.text, pat, from),
+        let (run, after) = self.text.split_at(self.run_len);
+        if let Some(place) = search::first_in_run(run, pat, from) {
+            return Some(place);
         }
+        // the run is all of the text, and only an empty pattern matches at its end
+        if after.is_empty() && !pat.is_empty() {
+            return None;
+        }
+        search::find_from(self.text, pat, from)
     }
 
     /// The text in two at a position of what is left, or `None` if the position isn't good. A
