@@ -1,15 +1,14 @@
 -- What a line shows has no line feed, and so no carriage return.
-use Rattle.std.proofs.Common.{◌≡◌, ◌⊎◌, inl, inr, ℕ, zero, suc, ◌+◌, ◌-◌, ◌/◌, ◌%◌, ◌≤◌, ◌<◌, ◌==◌, ◌&&◌, ◌||◌, Bool, true, false, not, List, [], ◌∷◌, ◌++◌, take, drop, length, map, fold, codes, chars, nat_lt, slice_index, encode_utf8, encode_utf8_all, flat_map, if◌then◌else◌, refl, sym, ◌∙◌, ap, ap₂, subst, eqb-true, arith}
+use Rattle.std.proofs.Common.{◌≡◌, inl, inr, ℕ, zero, suc, ◌+◌, ◌-◌, ◌/◌, ◌%◌, ◌≤◌, ◌<◌, ◌==◌, ◌&&◌, Bool, true, false, not, List, [], ◌∷◌, ◌++◌, take, drop, length, codes, chars, nat_lt, slice_index, encode_utf8, encode_utf8_all, flat_map, if◌then◌else◌, refl, sym, ◌∙◌, ap, subst, eqb-true, arith}
 use Rattle.std.specs.List.{list_all, position_or_len}
 use Rattle.std.specs.Str.{IsUtf8, byte}
 use Rattle.std.specs.Str.Lossy.{utf8_valid_len, utf8_lossy, utf8_invalid_len, after_first_chunk, replacement_bytes}
-use Rattle.std.proofs.lemmas.Bool.{cases_Bool, cases_lt, cond_both, and_from, and_parts, ltb-true}
+use Rattle.std.proofs.lemmas.Bool.{cases_Bool, cases_lt, and_from, and_parts, ltb-true}
 use Rattle.std.proofs.lemmas.Bool.Decides.{nat_tests}
-use Rattle.std.proofs.lemmas.List.{length-drop, take_all}
 use Rattle.std.proofs.lemmas.List.Folds.{list_all-append}
 use Rattle.std.proofs.lemmas.Str.{utf8_lossy_step, encodes-chars}
 use Rattle.ansi_items.specs.Pieces.{Piece, Text, Sequence, LoneEscape, spelling, ArePieces, pieces_of}
-use Rattle.ansi_items.specs.Plain.{plain, plain_of, plain_bytes, marks}
+use Rattle.ansi_items.specs.Plain.{plain, plain_of, marks}
 use Rattle.ansi_items.proofs.JoinLemmas.{spelled, spelled-pieces_of}
 use Rattle.ansi_items.proofs.PieceLemmas.{pieces_are}
 use Rattle.ansi_style.specs.declared.state.rendition.Rendition.{Rendition}
@@ -18,7 +17,6 @@ use Rattle.ansi_style.specs.Written.{start, start_codes, close, close_codes, wri
 use Rattle.ansi_style.proofs.ColorLemmas.{is_code_byte}
 use Rattle.ansi_style.proofs.ReadBackLemmas.{start_codes_are, close_codes_are}
 use Rattle.ansi_style.proofs.StyleLemmas.{IsStyle-style_after}
-use Rattle.ansi_safe.specs.declared.policy.Links.TheVariants.{Keep}
 use Rattle.ansi_safe.specs.declared.policy.Policy.{Policy}
 use Rattle.ansi_safe.specs.declared.policy.Rest.{Rest}
 use Rattle.ansi_safe.specs.declared.policy.Rest.TheVariants.{Drop, Show}

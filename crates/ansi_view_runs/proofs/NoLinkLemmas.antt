@@ -1,35 +1,34 @@
 -- What changes make of a text without a link has none.
-use Rattle.std.proofs.Common.{◌≡◌, ℕ, ◌+◌, ◌-◌, ◌==◌, Bool, true, false, not, ◌&&◌, ◌||◌, List, [], ◌∷◌, ◌++◌, All, length, map, flat_map, fold, filter, chars, codes, slice_range, nat_le, nat_lt, encode_utf8, encode_utf8_all, Option, Some, None, is_some, unwrap_or, zero, suc, if◌then◌else◌, IsTrue, refl, sym, ◌∙◌, ap, ap₂, subst, arith, append-nil}
+use Rattle.std.proofs.Common.{◌≡◌, ℕ, ◌+◌, ◌-◌, ◌==◌, Bool, true, false, ◌&&◌, List, [], ◌∷◌, ◌++◌, length, map, flat_map, fold, filter, chars, slice_range, nat_le, nat_lt, encode_utf8_all, Option, Some, None, is_some, unwrap_or, zero, suc, if◌then◌else◌, IsTrue, refl, sym, ◌∙◌, ap, ap₂, subst, append-nil}
 use Rattle.std.specs.List.{AllByRecursion, list_all}
 use Rattle.std.specs.Prelude.{◌≢◌, bytes_eq, ⊤}
-use Rattle.std.specs.Str.{IsUtf8, byte}
+use Rattle.std.specs.Str.{IsUtf8}
 use Rattle.std.proofs.lemmas.Bool.{cond_both, and_parts, and_from}
-use Rattle.std.proofs.lemmas.Bool.Decides.{nat_tests}
 use Rattle.std.proofs.lemmas.Grind.{flat_map-append}
 use Rattle.std.proofs.lemmas.List.Folds.{list_all-append}
 use Rattle.ansi_items.specs.Bytes.{is_plain_byte}
 use Rattle.ansi_items.specs.Sequences.{is_sgr}
 use Rattle.ansi_items.specs.Pieces.{Piece, Text, Sequence, LoneEscape, spelling, pieces_of, after_text, merged}
 use Rattle.ansi_items.specs.Plain.{Mark, plain, plain_bytes, marks_of, marks, marks_up_to, is_whole}
-use Rattle.ansi_items.proofs.JoinLemmas.{spelled, AllStandAnywhere, stand-append, pieces_of-spelled, is_whole-spelled, spelled-pieces_of, pieces_stand}
+use Rattle.ansi_items.proofs.JoinLemmas.{spelled, AllStandAnywhere, stand-append, pieces_of-spelled, is_whole-spelled, pieces_stand}
 use Rattle.ansi_items.proofs.PlainLemmas.{all_plain_bytes, has_escape-bare, has_escape-plain, one_text, pieces_of-bare}
 use Rattle.ansi_style.specs.declared.state.rendition.Rendition.{Rendition}
 use Rattle.ansi_style.specs.Rendition.{IsStyle, plain_style}
 use Rattle.ansi_style.specs.Reading.{after_marks}
 use Rattle.ansi_style.specs.Styled.{style_at}
-use Rattle.ansi_style.specs.Written.{start, start_codes, close, close_codes, written, written_all}
+use Rattle.ansi_style.specs.Written.{start, start_codes, close, close_codes}
 use Rattle.ansi_style.proofs.ColorLemmas.{is_code_byte, sgr_parameters-written}
 use Rattle.ansi_style.proofs.MarkLemmas.{mark_further_on, marks_of-text, marks_of-mark}
 use Rattle.ansi_style.proofs.ReadBackLemmas.{start_codes_are, close_codes_are, code_pieces, spelled-code_pieces, code_pieces_stand}
 use Rattle.ansi_style.proofs.StyleLemmas.{IsStyle-style_at, IsStyle-apply_all, IsStyle-plain_style}
 use Rattle.ansi_slice.specs.Cut.{interleaved}
-use Rattle.ansi_slice.proofs.ShownLemmas.{at_places, piece_when, interleaved_pieces, spelled-one_text, spelled-interleaved_pieces, interleaved_pieces_stand}
+use Rattle.ansi_slice.proofs.ShownLemmas.{at_places, interleaved_pieces, spelled-one_text, spelled-interleaved_pieces, interleaved_pieces_stand}
 use Rattle.ansi_split.specs.Parts.{marks_past}
 use Rattle.ansi_split.proofs.PartSliceLemmas.{own_places, marks_past-places, at_places-at_places}
-use Rattle.ansi_safe.specs.declared.policy.Links.TheVariants.{Keep, Remove}
+use Rattle.ansi_safe.specs.declared.policy.Links.TheVariants.{Keep}
 use Rattle.ansi_safe.specs.Cells.{cell, paragraph, placed, piece_in, run_in}
-use Rattle.ansi_safe.specs.Links.{link_of, link_after, link_after_all, link_at, link_end, is_link, opens_link, pen_close}
-use Rattle.ansi_safe.specs.Safe.{is_allowed, is_clean_link, keeps_links, may_stay, is_safe}
+use Rattle.ansi_safe.specs.Links.{link_after_all, link_at, link_end, opens_link, pen_close}
+use Rattle.ansi_safe.specs.Safe.{may_stay, is_safe}
 use Rattle.ansi_safe.proofs.CellLemmas.{plain-placed}
 use Rattle.ansi_safe.proofs.LinkLemmas.{link_of-fold, is_link-sgr}
 use Rattle.ansi_safe.proofs.SafeLemmas.{AreGood, good_stand}
@@ -39,9 +38,9 @@ use Rattle.ansi_columns.specs.Columns.{columns}
 use Rattle.ansi_columns.specs.Edits as columns
 use Rattle.ansi_columns.specs.Tabs.{since_stop, run_expanded, expanded}
 use Rattle.ansi_columns.specs.Lines.{lines}
-use Rattle.ansi_columns.specs.Shown.{has_tail, truncated_end, truncated_ending, truncated, missing, before_text, blanks, padded, closing, closed_cell}
-use Rattle.ansi_columns.specs.Sides.{fitting_tail, beside_tail, before_tail, is_cut_at_end, cut_before_end, truncated_at}
-use Rattle.ansi_columns.specs.Slices.{has_no_column, bytes_from, bytes_up_to, blanks_before, blanks_after, opened_at, pen_open, slice_opening, slice_middle, slice_closing, sliced_up_to, sliced}
+use Rattle.ansi_columns.specs.Shown.{has_tail, truncated_end, truncated, missing, before_text, blanks, padded, closing, closed_cell}
+use Rattle.ansi_columns.specs.Sides.{beside_tail, before_tail, is_cut_at_end, cut_before_end, truncated_at}
+use Rattle.ansi_columns.specs.Slices.{has_no_column, bytes_from, bytes_up_to, blanks_before, blanks_after, opened_at, pen_open, slice_opening, slice_middle, slice_closing, sliced_up_to}
 use Rattle.ansi_columns.specs.Wrapped.{CarriedPart, pen_end, line_over, lines_over, lent_lines, wrapped}
 use Rattle.ansi_columns.proofs.OneLineLemmas.{safe_are_good}
 use Rattle.ansi_view_runs.specs.Edits.{Change, OnColumns, Wrapped, changed}

@@ -1,5 +1,5 @@
 -- What an input becomes keeps the promise.
-use Rattle.std.proofs.Common.{◌≡◌, ◌⊎◌, inl, inr, ℕ, zero, suc, ◌==◌, Bool, true, false, not, ◌||◌, List, [], ◌∷◌, ◌++◌, All, map, flat_map, fold, length, chars, slice_index, encode_utf8, encode_utf8_all, IsTrue, refl, sym, ◌∙◌, ap, ap₂, subst, eqb-true, arith, append-nil}
+use Rattle.std.proofs.Common.{◌≡◌, inl, inr, ℕ, zero, suc, ◌==◌, Bool, true, false, not, ◌||◌, List, [], ◌∷◌, ◌++◌, All, map, flat_map, fold, length, chars, slice_index, encode_utf8, encode_utf8_all, IsTrue, refl, sym, ◌∙◌, ap, subst, eqb-true, arith, append-nil}
 use Rattle.std.specs.List.{AllByRecursion, list_all}
 use Rattle.std.specs.Str.{IsUtf8, byte}
 use Rattle.std.proofs.lemmas.Bool.{cases_Bool, false≢true, and_from, and_parts}
@@ -15,10 +15,8 @@ use Rattle.ansi_safe.specs.Safe.{is_allowed, all_allowed}
 use Rattle.ansi_safe.proofs.SafeLemmas.{AreGood}
 use Rattle.ansi_columns.specs.Edits as columns
 use Rattle.ansi_columns.specs.Rows.{Row, row, cell_row, row_screen}
-use Rattle.ansi_columns.specs.Screens.{screen}
 use Rattle.ansi_columns.specs.Tabs.{expanded}
 use Rattle.ansi_columns.proofs.OneLineLemmas.{clean-one_line, safe_are_good}
-use Rattle.ansi_columns.proofs.TailLemmas.{IsShown}
 use Rattle.ansi_view_runs.specs.Edits.{Change, OnColumns, Wrapped, HasUtf8Tail, HasTailBy, changed, changed_in_turn}
 use Rattle.ansi_view_runs.specs.Lines.{Line, first_line, first_lines, lines}
 use Rattle.ansi_view_runs.specs.Promise.{changed_rows, rows_in_turn, shown_rows, has_no_line_end, IsViewedLine, AreViewedLines, IsViewed}

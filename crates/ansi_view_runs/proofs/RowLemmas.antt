@@ -1,35 +1,34 @@
 -- What changes make of a text shows what they make of its row.
-use Rattle.std.proofs.Common.{◌≡◌, ℕ, ◌==◌, Bool, true, false, not, ◌&&◌, ◌||◌, List, [], ◌∷◌, ◌++◌, All, map, flat_map, fold, length, refl, sym, ◌∙◌, ap, ap₂, subst, arith, append-nil, IsTrue}
+use Rattle.std.proofs.Common.{◌≡◌, ℕ, ◌==◌, Bool, true, false, not, ◌||◌, List, [], ◌∷◌, ◌++◌, map, flat_map, fold, refl, sym, ◌∙◌, ap, ap₂, subst, arith}
 use Rattle.std.specs.List.{AllByRecursion, list_all, list_any}
 use Rattle.std.specs.Prelude.{chars}
 use Rattle.std.specs.Str.{IsUtf8, byte}
 use Rattle.std.proofs.lemmas.Bool.{and_from, and_parts, or_from}
 use Rattle.std.proofs.lemmas.Bool.Decides.{nat_tests}
-use Rattle.std.proofs.lemmas.Grind.{flat_map-append}
 use Rattle.std.proofs.lemmas.List.{map-append}
-use Rattle.std.proofs.lemmas.List.Elements.{All-from_recursion, recursion_from_All}
+use Rattle.std.proofs.lemmas.List.Elements.{recursion_from_All}
 use Rattle.std.proofs.lemmas.List.Folds.{list_all-append}
 use Rattle.ansi_items.specs.Pieces.{Piece, Text, Sequence, LoneEscape, pieces_of}
-use Rattle.ansi_items.specs.Plain.{plain, plain_of, plain_bytes}
+use Rattle.ansi_items.specs.Plain.{plain_of, plain_bytes}
 use Rattle.ansi_safe.specs.Cells.{cell, paragraph, placed, stays_in, piece_stays}
 use Rattle.ansi_safe.specs.Safe.{all_allowed}
 use Rattle.ansi_safe.proofs.CellLemmas.{placed-stays, placed_stays}
 use Rattle.ansi_columns.specs.Edits as columns
 use Rattle.ansi_columns.specs.Lines as wrap
-use Rattle.ansi_columns.specs.Rows.{Row, row, cell_row, row_bytes, row_range, row_screen, line_rows}
+use Rattle.ansi_columns.specs.Rows.{Row, row, cell_row, row_range, row_screen}
 use Rattle.ansi_columns.specs.Screens.{screen}
 use Rattle.ansi_columns.specs.Tabs.{piece_has_tab, expanded}
 use Rattle.ansi_columns.specs.Wrapped.{CarriedPart, wrapped}
 use Rattle.ansi_columns.proofs.CleanLineLemmas.{CleanLine, clean-wrapped}
-use Rattle.ansi_columns.proofs.EditLemmas.{IsEditing, clean-stays, shown-changed, editing-begun, editing-step}
+use Rattle.ansi_columns.proofs.EditLemmas.{clean-stays, shown-changed, editing-begun, editing-step}
 use Rattle.ansi_columns.proofs.IndentLawLemmas.{ShutLine, wrapped_are_shut}
 use Rattle.ansi_columns.proofs.OneLineLemmas.{clean-one_line, safe-paragraph}
 use Rattle.ansi_columns.proofs.RowLemmas.{bytes-row, screen-row, row-lines}
 use Rattle.ansi_columns.proofs.SequenceLemmas.{good-utf8}
 use Rattle.ansi_columns.proofs.TabLemmas.{expanded-no_tab}
 use Rattle.ansi_columns.proofs.TailLemmas.{IsShown}
-use Rattle.ansi_view_runs.specs.Edits.{Change, OnColumns, Wrapped, HasUtf8Tail, is_expansion, changed, changed_in_turn}
-use Rattle.ansi_view_runs.specs.Promise.{changed_rows, rows_in_turn, shown_rows}
+use Rattle.ansi_view_runs.specs.Edits.{Change, OnColumns, Wrapped, HasUtf8Tail, changed}
+use Rattle.ansi_view_runs.specs.Promise.{changed_rows}
 
 -- ---- a text of a cell, closed, is its own cell and paragraph, and has no TAB
 

@@ -40,7 +40,6 @@ use Rattle.ansi_view_runs.specs.Edits.{HasUtf8Tail, changed_in_turn}
 use Rattle.ansi_view_runs.specs.SafeTexts.{IsSafeText}
 use Rattle.ansi_view_runs.specs.Views.{Work, body, decoded, line_break, opening_of, opening_after, shown, viewed, viewed_all, view_of}
 use Rattle.ansi_view_runs.proofs.ChangeLemmas.{safe-append, all-in_turn}
-use Rattle.ansi_view_runs.proofs.StayLemmas.{viewed-unchanged}
 
 -- What bytes are read as is UTF-8.
 

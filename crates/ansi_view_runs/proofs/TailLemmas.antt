@@ -1,5 +1,5 @@
 -- The changes of a job whose tails are made safe.
-use Rattle.std.proofs.Common.{◌≡◌, ℕ, List, [], ◌∷◌, map, refl, ap, ◌∙◌}
+use Rattle.std.proofs.Common.{◌≡◌, List, [], ◌∷◌, map, refl, ap}
 use Rattle.ansi_safe.specs.declared.policy.Policy.{Policy}
 use Rattle.ansi_safe.specs.Sanitized.{sanitized}
 use Rattle.ansi_view_runs.specs.Edits.{Change, tail_of, with_tail, with_tails}

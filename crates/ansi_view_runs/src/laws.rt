@@ -25,9 +25,9 @@ pub fn view_keeps_its_promise()
         IsViewed work input (view_of work input) }
 {}
 
-/// Whatever the words ask for and whatever bytes come in, what the input becomes is UTF-8 and safe,
-/// and no style and no link is open at its end. So it is for any edits whose tails are UTF-8. Without
-/// edits the policy of the words holds too: a tail may have a link that the policy would remove.
+/// What the input becomes is UTF-8 and safe, and no style and no link is open at its end, for all
+/// words, and for any edits whose tails are UTF-8. The policy holds too if it allows what the tails
+/// show, as it does those that words ask for.
 pub fn view_is_safe()
     ensures asked { (words : List (List ℕ)) (input : List ℕ) → All IsUtf8 words →
         IsSafeText (view_of (view_asked words) input) }

@@ -1,4 +1,4 @@
-use Rattle.std.proofs.Common.{◌≡◌, ◌∙◌, ap, List}
+use Rattle.std.proofs.Common.{◌∙◌, ap}
 use Rattle.ansi_lines_runs.specs.Runs.{words_of}
 use Rattle.ansi_view_runs.specs.Edits.{changes_of, with_tails}
 use Rattle.ansi_view_runs.specs.Jobs.{work_of}
