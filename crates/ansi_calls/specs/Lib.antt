@@ -7,6 +7,7 @@ pub mod Columns
 pub mod ColumnSteps
 pub mod Safe
 pub mod Restyles
+pub mod Replacements
 pub mod Links
 pub mod Pens
 pub mod Calls

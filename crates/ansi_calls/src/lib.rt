@@ -14,6 +14,7 @@ pub mod lines;
 pub mod links;
 pub mod lists;
 pub mod pens;
+pub mod replacements;
 pub mod restyles;
 pub mod safe;
 pub mod searches;
