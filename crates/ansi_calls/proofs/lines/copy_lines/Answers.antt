@@ -19,7 +19,7 @@ loop-line-init c =
     record {
       can = tt;
       finite = tt;
-      copied = ([], first_fit-unique c.args.width (clusters x) c.new.result (lines c.args.width x) c.new.ensures.first_fit (lines-first_fit c.args.width x), refl, λ room. refl);
+      copied = ([], c.into_iter-line-iterator.ensures.into_iter_gives ∙ first_fit-unique c.args.width (clusters x) c.new-line-items.result (lines c.args.width x) c.new-line-items.ensures.first_fit (lines-first_fit c.args.width x), refl, λ room. refl);
     }
 
 -- there is at most one line more than the text has bytes
