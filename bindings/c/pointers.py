@@ -52,6 +52,7 @@ int main(void) {
     for (size_t i = 0; i < sizeof column_edits / sizeof column_edits[0]; i++) {
         expect("an edit by columns", "the tail", column_edits[i].tail != NULL);
     }
+    expect("a replacement", "the new text", ansi_str_replacement_of(1, 2, NULL, 0).with != NULL);
     call_each();
     is_given = 0;
     call_each();

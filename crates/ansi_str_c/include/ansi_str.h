@@ -206,6 +206,14 @@ typedef struct {
     size_t end;
 } ansi_str_range;
 
+/* A range of a plain text, by where it begins and ends in bytes, and the text in its place. Made with ansi_str_replacement_of. */
+typedef struct {
+    size_t start;
+    size_t end;
+    const uint8_t *with;
+    size_t with_len;
+} ansi_str_replacement;
+
 /* A link of a text: where its range begins and ends, in bytes of the plain text, and where its address ends in the buffer. */
 typedef struct {
     size_t start;
@@ -344,6 +352,8 @@ ansi_str_answer ansi_str_raw_insert(const uint8_t *text, size_t text_len, size_t
                                     uint8_t *buffer, size_t buffer_len);
 ansi_str_answer ansi_str_raw_replace_all(const uint8_t *text, size_t text_len, const uint8_t *pattern, size_t pattern_len,
                                          const uint8_t *with, size_t with_len, uint8_t *buffer, size_t buffer_len);
+ansi_str_answer ansi_str_raw_replace_each(const uint8_t *text, size_t text_len, const ansi_str_replacement *replacements,
+                                          size_t replacements_len, uint8_t *buffer, size_t buffer_len);
 ansi_str_answer ansi_str_raw_link(const uint8_t *text, size_t text_len, size_t start, size_t end, const uint8_t *address,
                                   size_t address_len, uint8_t *buffer, size_t buffer_len);
 ansi_str_answer ansi_str_raw_unlink(const uint8_t *text, size_t text_len, uint8_t *buffer, size_t buffer_len);
@@ -594,6 +604,30 @@ static inline ansi_str_answer ansi_str_replace_all(const char *text, size_t text
                                                    const char *with, size_t with_len, char *buffer, size_t buffer_len) {
     return ansi_str_raw_replace_all(ansi_str_bytes(text), text_len, ansi_str_bytes(pattern), pattern_len, ansi_str_bytes(with),
                                     with_len, ansi_str_room(buffer), buffer_len);
+}
+
+/* A replacement, for ansi_str_replace_each. */
+static inline ansi_str_replacement ansi_str_replacement_of(size_t start, size_t end, const char *with, size_t with_len) {
+    ansi_str_replacement replacement;
+    replacement.start = start;
+    replacement.end = end;
+    replacement.with = ansi_str_bytes(with);
+    replacement.with_len = with_len;
+    return replacement;
+}
+
+/* The text with a text of its own in place of each of many ranges, in one pass. Positions count bytes of the plain text of this
+   text. Each range is replaced as ansi_str_replace does it: its new text is in the style and the link that the character before
+   the range has in this text. Every other character keeps its style and its link, and every sequence of the text stays. Several
+   texts at one position come in order.
+   ANSI_STR_REFUSED: the ranges are refused as by ansi_str_restyle. ANSI_STR_NOT_UTF8: one of the texts isn't UTF-8. Allocates if
+   there is a range, on any text.
+   "one \x1b[32mtwo\x1b[39m" with "1" from 0 up to 3 and "2" from 4 up to 7 gives "1 2\x1b[32m\x1b[39m". */
+static inline ansi_str_answer ansi_str_replace_each(const char *text, size_t text_len, const ansi_str_replacement *replacements,
+                                                    size_t replacements_len, char *buffer, size_t buffer_len) {
+    ansi_str_replacement none = ansi_str_replacement_of(0, 0, NULL, 0);
+    return ansi_str_raw_replace_each(ansi_str_bytes(text), text_len, replacements == NULL ? &none : replacements, replacements_len,
+                                     ansi_str_room(buffer), buffer_len);
 }
 
 /* The text with its plain bytes from one position up to another linked to an address (OSC 8, without parameters). Each character in

@@ -2,9 +2,11 @@
 //! text without a part or with another text in its place.
 ghost use Rattle.ansi_calls.specs.Restyles.{WritesMatches, Restyles, Marks, Removes};
 ghost use Rattle.ansi_calls.specs.Restyles.{Replaces, Inserts, ReplacesAll};
+ghost use Rattle.ansi_calls.specs.Replacements.{ReplacesEach};
 
 use ansi_calls::answers::Answer;
 use ansi_calls::lists::ListAnswer;
+use ansi_calls::replacements::{ReplacementEntry, replace_each};
 use ansi_calls::restyles::{
     RangeEntry, insert, mark, matches, remove, replace, replace_all, restyle,
 };
@@ -105,4 +107,17 @@ pub extern "C" fn ansi_str_raw_replace_all(
     ensures { ReplacesAll text.now pattern.now with.now result buffer.old buffer.new }
 {
     replace_all(alloc, text, pattern, with, buffer)
+}
+
+/// The text with another text in place of each of many ranges.
+#[unsafe(no_mangle)]
+pub extern "C" fn ansi_str_raw_replace_each(
+    alloc: Global,
+    text: &[u8],
+    entries: &[ReplacementEntry<'_>],
+    buffer: &mut [u8],
+) -> Answer
+    ensures { ReplacesEach text.now entries.now result buffer.old buffer.new }
+{
+    replace_each(alloc, text, entries, buffer)
 }

@@ -2,10 +2,12 @@
 //! text without a part or with another text in its place.
 ghost use Rattle.ansi_calls.specs.Restyles.{WritesMatches, Restyles, Marks, Removes};
 ghost use Rattle.ansi_calls.specs.Restyles.{Replaces, Inserts, ReplacesAll};
+ghost use Rattle.ansi_calls.specs.Replacements.{ReplacesEach};
 
 use crate::memory::arena_of;
 use ansi_calls::answers::Answer;
 use ansi_calls::lists::ListAnswer;
+use ansi_calls::replacements::{ReplacementEntry, replace_each};
 use ansi_calls::restyles::{
     RangeEntry, insert, mark, matches, remove, replace, replace_all, restyle,
 };
@@ -112,4 +114,18 @@ pub extern "C" fn ansi_str_raw_replace_all(
 {
     let block = OneBlock::new(memory);
     replace_all(&arena_of(&block), text, pattern, with, buffer)
+}
+
+/// The text with another text in place of each of many ranges.
+#[unsafe(no_mangle)]
+pub extern "C" fn ansi_str_raw_replace_each(
+    memory: MemoryBlock,
+    text: &[u8],
+    entries: &[ReplacementEntry<'_>],
+    buffer: &mut [u8],
+) -> Answer
+    ensures { ReplacesEach text.now entries.now result buffer.old buffer.new }
+{
+    let block = OneBlock::new(memory);
+    replace_each(&arena_of(&block), text, entries, buffer)
 }
