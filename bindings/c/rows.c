@@ -161,6 +161,16 @@ static ansi_str_column_step *column_edits_of(const struct row *r, size_t *count)
     return edits;
 }
 
+/* The replacements of a row, each of three fields: where its range begins and ends, and a text. */
+static ansi_str_replacement *replacements_of(const struct row *r, size_t *count) {
+    *count = (r->count - 4) / 3;
+    ansi_str_replacement *replacements = __real_malloc((*count + 1) * sizeof *replacements);
+    for (size_t i = 0; i < *count; i++) {
+        replacements[i] = ansi_str_replacement_of(position(r, 3 * i), position(r, 3 * i + 1), TEXT(argument(r, 3 * i + 2)));
+    }
+    return replacements;
+}
+
 /* The ranges of a row, which follow its codes: two numbers each, with a comma between. */
 static ansi_str_range *ranges_of(const struct row *r, size_t *count) {
     *count = r->count - 5;
@@ -245,6 +255,11 @@ static ansi_str_answer call(const struct row *r, char *buffer, size_t len) {
         ansi_str_answer restyled = ansi_str_restyle(TEXT(t), ranges, count, TEXT(argument(r, 0)), buffer, len);
         free(ranges);
         return restyled;
+    } else if (strcmp(name, "replace_each") == 0) {
+        ansi_str_replacement *replacements = replacements_of(r, &count);
+        ansi_str_answer replaced = ansi_str_replace_each(TEXT(t), replacements, count, buffer, len);
+        free(replacements);
+        return replaced;
     } else if (strcmp(name, "edit_columns") == 0) {
         ansi_str_column_step *column_edits = column_edits_of(r, &count);
         ansi_str_answer edited = ansi_str_edit_columns(TEXT(t), column_edits, count, buffer, len);
@@ -827,6 +842,7 @@ static void expect_styled_blocks(const struct row *r) {
 /* What no row has: bytes that aren't UTF-8 for a call on columns, a number without a meaning, and no text, tail or buffer. */
 static void expect_failures(void) {
     char buffer[] = "as it is";
+    const ansi_str_replacement not_utf8 = ansi_str_replacement_of(1, 0, "\xff", 1);
     const ansi_str_answer answers[] = {ansi_str_width("\xff", 1), ansi_str_fitting("\xff", 1, 1),
                                        ansi_str_truncate("\xff", 1, 1, ".", 1, buffer, 8),
                                        ansi_str_truncate("ab", 2, 1, "\xff", 1, buffer, 8),
@@ -846,6 +862,7 @@ static void expect_failures(void) {
                                        ansi_str_replace("a", 1, 1, 0, "\xff", 1, buffer, 8),
                                        ansi_str_insert("a", 1, 2, "\xff", 1, buffer, 8),
                                        ansi_str_replace_all("a", 1, "b", 1, "\xff", 1, buffer, 8),
+                                       ansi_str_replace_each("a", 1, &not_utf8, 1, buffer, 8),
                                        ansi_str_link("\xff", 1, 0, 0, "", 0, buffer, 8),
                                        ansi_str_link("a", 1, 1, 0, "\xff", 1, buffer, 8),
                                        ansi_str_unlink("\xff", 1, buffer, 8)};
@@ -907,6 +924,7 @@ static void expect_failures(void) {
     expect("nothing", ansi_str_replace(NULL, 0, 0, 0, NULL, 0, NULL, 0).status == ANSI_STR_OK);
     expect("nothing", ansi_str_insert(NULL, 0, 0, NULL, 0, NULL, 0).status == ANSI_STR_OK);
     expect("nothing", ansi_str_replace_all(NULL, 0, NULL, 0, NULL, 0, NULL, 0).status == ANSI_STR_OK);
+    expect("nothing", ansi_str_replace_each(NULL, 0, NULL, 0, NULL, 0).status == ANSI_STR_OK);
     expect("no address", ansi_str_link(NULL, 0, 0, 0, NULL, 0, NULL, 0).status == ANSI_STR_REFUSED);
     expect("nothing", ansi_str_unlink(NULL, 0, NULL, 0).status == ANSI_STR_OK);
     ansi_str_pen pen;

@@ -1,6 +1,7 @@
 //! The calls of the library for C, over texts: the one module that isn't safe.
 
 use crate::columns::ColumnEdit;
+use crate::restyle::Replacement;
 use crate::style::{Color, Style};
 use crate::Edit;
 use std::borrow::Cow;
@@ -151,6 +152,15 @@ struct RawLine {
 pub(crate) struct RawRange {
     pub(crate) start: usize,
     pub(crate) end: usize,
+}
+
+/// A range, and the text in its place.
+#[repr(C)]
+struct RawReplacement {
+    start: usize,
+    end: usize,
+    with: Bytes,
+    with_len: usize,
 }
 
 /// A link: its range, and where its address ends in the addresses of all links.
@@ -338,6 +348,14 @@ extern "C" {
         k: usize,
         with: Bytes,
         with_len: usize,
+        b: Room,
+        m: usize,
+    ) -> Answer;
+    fn ansi_str_raw_replace_each(
+        t: Bytes,
+        n: usize,
+        edits: *const RawReplacement,
+        k: usize,
         b: Room,
         m: usize,
     ) -> Answer;
@@ -781,6 +799,24 @@ pub(crate) fn replace_all(text: &str, pat: &str, with: &str) -> String {
         unsafe { ansi_str_raw_replace_all(t, n, p, k, with.as_ptr(), with.len(), b, m) }
     })
     .unwrap_or_else(|_| unreachable!("the call isn't refused"))
+}
+
+/// The text with a text of its own in place of each range, or `None` if the ranges are refused.
+pub(crate) fn replace_each(text: &str, edits: &[Replacement<'_>]) -> Option<String> {
+    let raw_of = |edit: &Replacement<'_>| RawReplacement {
+        start: edit.range.start,
+        end: edit.range.end,
+        with: edit.with.as_ptr(),
+        with_len: edit.with.len(),
+    };
+    let raw: Vec<RawReplacement> = edits.iter().map(raw_of).collect();
+    let more: usize = edits.iter().map(|edit| edit.with.len()).sum();
+    written(text.len() + more, |b, m| {
+        let (t, n, k) = (text.as_ptr(), text.len(), raw.len());
+        // SAFETY: a `str`, ranges with `str`s that outlive the call, and the room; any numbers may be a range
+        unsafe { ansi_str_raw_replace_each(t, n, raw.as_ptr(), k, b, m) }
+    })
+    .ok()
 }
 
 /// The text with a range linked, or `None` if the range or the address is refused.

@@ -136,6 +136,22 @@ pub trait AnsiRestyle: AnsiStr {
     #[must_use]
     fn ansi_replace_all(&self, pat: &str, with: &str) -> Cow<'_, str>;
 
+    /// The text with a text of its own in place of each of many ranges, in one pass. Each is replaced as
+    /// [`ansi_replace`](AnsiRestyle::ansi_replace) does it: its new text is in the style and the link that the character before
+    /// the range has in this text. Every other character keeps its style and its link. Texts at the same position come in the
+    /// order of their ranges. It is borrowed if each range is empty, and so is the text in its place.
+    ///
+    /// It is `None` if [`ansi_restyle`](AnsiRestyle::ansi_restyle) would refuse the ranges.
+    ///
+    /// ```
+    /// use ansi_str::restyle::{AnsiRestyle, Replacement};
+    /// let edits = [Replacement { range: 0..3, with: "1" }, Replacement { range: 4..7, with: "2" }];
+    /// let replaced = "\x1b[32mone\x1b[39m two".ansi_replace_each(&edits).unwrap();
+    /// assert_eq!(replaced, "\x1b[32m1\x1b[39m 2");
+    /// ```
+    #[must_use]
+    fn ansi_replace_each(&self, edits: &[Replacement<'_>]) -> Option<Cow<'_, str>>;
+
     /// The links of the text, in order. A link sequence (OSC 8) with an address opens a link, which goes on up to the next link
     /// sequence or the end of the text. A link without text is left out.
     ///
@@ -218,6 +234,15 @@ impl Iterator for AnsiLinks {
 impl ExactSizeIterator for AnsiLinks {}
 impl FusedIterator for AnsiLinks {}
 
+/// A range of a plain text, and the text in its place; [`AnsiRestyle::ansi_replace_each`] accepts a list of them.
+#[derive(Debug, Clone, PartialEq, Eq, Hash)]
+pub struct Replacement<'a> {
+    /// The range, in bytes of the plain text.
+    pub range: Range<usize>,
+    /// The text in its place.
+    pub with: &'a str,
+}
+
 /// An iterator over where a pattern occurs; [`AnsiRestyle::ansi_matches`] returns it. That call finds all matches, so the iterator
 /// doesn't borrow the text.
 #[derive(Debug, Clone)]
@@ -286,6 +311,14 @@ impl<T: AsRef<str> + ?Sized> AnsiRestyle for T {
             Some(_) => Cow::Owned(calls::replace_all(text, pat, with)),
             None => Cow::Borrowed(text),
         }
+    }
+
+    fn ansi_replace_each(&self, edits: &[Replacement<'_>]) -> Option<Cow<'_, str>> {
+        let text = self.as_ref();
+        let replaced = calls::replace_each(text, edits)?;
+        let is_nothing =
+            |edit: &Replacement<'_>| edit.range.start == edit.range.end && edit.with.is_empty();
+        Some(borrowed_if(edits.iter().all(is_nothing), text, replaced))
     }
 
     fn ansi_links(&self) -> AnsiLinks {

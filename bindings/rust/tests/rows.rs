@@ -1,7 +1,7 @@
 //! Passes the rows of texts and results, which `rows/README.md` describes.
 
 use ansi_str::columns::{edit_columns, Alignment, AnsiColumns, ColumnEdit, Side, Truncation, Wrap};
-use ansi_str::restyle::{AnsiLink, AnsiRestyle};
+use ansi_str::restyle::{AnsiLink, AnsiRestyle, Replacement};
 use ansi_str::safe::{sanitize_bytes, AnsiSafe, Links, Policy, Rest};
 use ansi_str::{edit, get_blocks, is_whole, part, pen_after, AnsiBlock, AnsiStr, Color, Edit};
 use std::borrow::Cow;
@@ -168,6 +168,14 @@ fn edit_of(fields: &[String]) -> Option<Edit<'_>> {
     })
 }
 
+/// A replacement of a row: where its range begins and ends, and the text in its place.
+fn replacement_of(fields: &[String]) -> Replacement<'_> {
+    Replacement {
+        range: number(&fields[0])..number(&fields[1]),
+        with: &fields[2],
+    }
+}
+
 /// An edit by columns of a row: its kind, its alignment or side, two numbers and a tail. `None` if it has none of those that
 /// there are.
 fn column_edit_of(fields: &[String]) -> Option<ColumnEdit<'_>> {
@@ -313,6 +321,10 @@ fn pass(call: &str, status: &str, want: &str, text: &str, more: &[String]) -> Op
         "replace" => is(text.ansi_replace(position(0)..position(1), &more[2])),
         "insert" => is(text.ansi_insert(position(0), &more[1])),
         "replace_all" => is(Some(text.ansi_replace_all(&more[0], &more[1]))),
+        "replace_each" => {
+            let edits: Vec<_> = more.chunks(3).map(replacement_of).collect();
+            is(text.ansi_replace_each(&edits))
+        }
         "link" => is(text.ansi_link(position(0)..position(1), &more[2])),
         "unlink" => is(Some(text.ansi_unlink())),
         "links" => {
@@ -419,6 +431,16 @@ fn what_no_range_changes_is_a_borrow() {
         assert!(matches!(text.ansi_insert(3, "d"), Some(Cow::Owned(_))));
         assert!(matches!(text.ansi_replace_all("d", "e"), Cow::Borrowed(_)));
         assert!(matches!(text.ansi_replace_all("a", "a"), Cow::Owned(_)));
+        let edit = |range, with| Replacement { range, with };
+        let nothing = [edit(0..0, ""), edit(3..3, "")];
+        assert!(matches!(
+            text.ansi_replace_each(&nothing),
+            Some(Cow::Borrowed(_))
+        ));
+        assert!(matches!(
+            text.ansi_replace_each(&[edit(0..1, "a")]),
+            Some(Cow::Owned(_))
+        ));
         assert!(matches!(text.ansi_link(3..3, "u"), Some(Cow::Borrowed(_))));
         assert!(matches!(text.ansi_link(0..3, "u"), Some(Cow::Owned(_))));
         assert!(matches!(text.ansi_unlink(), Cow::Borrowed(_)));

@@ -108,7 +108,9 @@ impl<'r> Call<'r> {
             "matches" | "find_from" | "restyle" | "mark" | "remove" | "replace" | "insert" => {
                 Call::Restyles(RestyleCall::new(row)?)
             }
-            "replace_all" | "link" | "unlink" | "links" => Call::Restyles(RestyleCall::new(row)?),
+            "replace_all" | "replace_each" | "link" | "unlink" | "links" => {
+                Call::Restyles(RestyleCall::new(row)?)
+            }
             _ => Call::Columns(ColumnCall::new(row)?),
         })
     }

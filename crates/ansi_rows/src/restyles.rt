@@ -7,6 +7,7 @@ use ansi_restyle::matches::Matches;
 use ansi_restyle::remove::remove_in;
 use ansi_restyle::replace::{insert_in, replace_in};
 use ansi_restyle::replace_all::replace_all_in;
+use ansi_restyle::replace_each::{Replacement, replace_each_in};
 use ansi_restyle::restyle::{mark_in, restyle_in};
 use ansi_str::AnsiStr;
 use refusing::Refusing;
@@ -23,6 +24,8 @@ pub enum RestyleCall<'r> {
     Replace(usize, usize, &'r str),
     Insert(usize, &'r str),
     ReplaceAll(&'r str, &'r str),
+    /// The replacements are the row's fields.
+    ReplaceEach,
     Link(usize, usize, &'r str),
     Unlink,
     Links,
@@ -39,6 +42,7 @@ impl<'r> RestyleCall<'r> {
             "replace" => { RestyleCall::Replace(row.number(0)?, row.number(1)?, row.argument(2)?) }
             "insert" => RestyleCall::Insert(row.number(0)?, row.argument(1)?),
             "replace_all" => RestyleCall::ReplaceAll(row.argument(0)?, row.argument(1)?),
+            "replace_each" => RestyleCall::ReplaceEach,
             "link" => RestyleCall::Link(row.number(0)?, row.number(1)?, row.argument(2)?),
             "unlink" => RestyleCall::Unlink,
             "links" => RestyleCall::Links,
@@ -60,6 +64,17 @@ fn ranges_of(alloc: Global, row: &Row<'_>) -> Option<Vec<(usize, usize)>> {
         ranges.push(range_of(field.as_str())?).ok()?;
     }
     Some(ranges)
+}
+
+/// The replacements of a row, each of three fields: where its range begins and ends, and a text.
+fn replacements_of<'r>(alloc: Global, row: &Row<'r>) -> Option<Vec<Replacement<'r>>> {
+    let mut edits = Vec::new(alloc);
+    for at in (0..row.more.len()).step_by(3) {
+        let range = (row.number(at)?, row.number(at.saturating_add(1))?);
+        let with = row.argument(at.saturating_add(2))?;
+        edits.push(Replacement { range, with }).ok()?;
+    }
+    Some(edits)
 }
 
 fn check_matches(check: &mut Check<'_>, matches: Matches<'_, '_>) {
@@ -104,6 +119,12 @@ pub fn make_restyle_call<T: AnsiStr>(check: &mut Check<'_>, text: &T, call: Rest
         RestyleCall::ReplaceAll(pat, with) => {
             check.text_or_err(text.ansi_replace_all(alloc, pat, with));
         }
+        RestyleCall::ReplaceEach => match replacements_of(alloc, &check.row) {
+            Some(edits) => {
+                check.option_or_err(text.ansi_replace_each(alloc, edits.as_slice()), "2");
+            }
+            None => check.fail("no replacement"),
+        },
         RestyleCall::Link(start, end, address) => {
             check.option_or_err(text.ansi_link(alloc, (start, end), address), "2");
         }
@@ -138,6 +159,12 @@ pub fn make_restyle_call_in(check: &mut Check<'_>, heap: &Refusing<Global>, call
         RestyleCall::ReplaceAll(pat, with) => {
             check.text_or_err(replace_all_in(heap, text, pat, with));
         }
+        RestyleCall::ReplaceEach => match replacements_of(check.alloc, &check.row) {
+            Some(edits) => {
+                check.option_or_err(replace_each_in(heap, text, edits.as_slice()), "2");
+            }
+            None => check.fail("no replacement"),
+        },
         RestyleCall::Link(start, end, address) => {
             check.option_or_err(link_in(heap, text, (start, end), address), "2");
         }

@@ -4,7 +4,7 @@ use crate::restyle::{are_in_turn, expect_made, CHARACTERS};
 use crate::style::Style;
 use crate::text::{Item, Kind, Text};
 use crate::{compare, short_texts, Tally};
-use ansi_str::restyle::{AnsiLink, AnsiRestyle};
+use ansi_str::restyle::{AnsiLink, AnsiRestyle, Replacement};
 use std::ops::Range;
 
 /// The pieces of the texts.
@@ -64,26 +64,32 @@ fn put(pen: &Pen, with: &str) -> String {
     format!("{with}{link}{style}")
 }
 
-/// The text with another one after the plain byte before the range, or before the first one, and without what is in the range.
-fn replaced(text: &Text, range: &Range<usize>, with: &str) -> String {
-    let (mut made, mut pen, mut is_put) = (String::new(), Pen::default(), false);
+/// The text with each text after the plain byte before its range, or before the first one, and without what is in the ranges.
+fn each_replaced(text: &Text, edits: &[Replacement]) -> String {
+    let (mut made, mut pen, mut from) = (String::new(), Pen::default(), 0);
+    let mut left = edits.iter().peekable();
     for item in &text.items {
         if item.kind != Kind::Run {
             pen.read(item);
             made += item.spelled;
             continue;
         }
-        made += item.between(&(0..range.start));
-        if !is_put && range.start <= item.place + item.spelled.len() {
-            made += &put(&pen, with);
-            is_put = true;
+        let end = item.place + item.spelled.len();
+        while let Some(edit) = left.next_if(|edit| edit.range.start <= end) {
+            made += item.between(&(from..edit.range.start));
+            made += &put(&pen, edit.with);
+            from = edit.range.end;
         }
-        made += item.between(&(range.end..usize::MAX));
+        made += item.between(&(from..usize::MAX));
     }
-    if !is_put {
-        made += &put(&pen, with);
-    }
+    left.for_each(|edit| made += &put(&pen, edit.with));
     made
+}
+
+/// The text with another one in place of a range.
+fn replaced(text: &Text, range: &Range<usize>, with: &str) -> String {
+    let range = range.clone();
+    each_replaced(text, &[Replacement { range, with }])
 }
 
 /// The text in three, each sequence before the plain byte at its place: the link that is open after the first part ends there, and that
@@ -162,6 +168,45 @@ fn expect_replaced(tally: &mut Tally, spelled: &str) {
 #[test]
 fn ranges_are_replaced_as_defined() {
     assert_eq!(compare(&PIECES, 3, expect_replaced), 847_364);
+}
+
+/// Compares a text with a text of its own in place of each of two ranges, or refused.
+fn expect_each_replaced(tally: &mut Tally, spelled: &str, ranges: &[Range<usize>; 2]) {
+    let text = Text::new(spelled);
+    let is_good = are_in_turn(&text.plain, ranges);
+    for texts in [
+        ["", ""],
+        ["x", "\x1b[1my"],
+        ["\x1b[0;99mx", "\x1b]8;;u\x07y"],
+    ] {
+        let edit_of = |(range, with): (&Range<usize>, _)| Replacement {
+            range: range.clone(),
+            with,
+        };
+        let edits: Vec<_> = ranges.iter().zip(texts).map(edit_of).collect();
+        let want = is_good.then(|| each_replaced(&text, &edits));
+        let is_nothing = |edit: &Replacement| edit.range.is_empty() && edit.with.is_empty();
+        let is_same = edits.iter().all(is_nothing);
+        let got = spelled.ansi_replace_each(&edits);
+        expect_made(tally, got, want, is_same, (ranges, spelled));
+    }
+}
+
+#[test]
+fn each_of_two_ranges_is_replaced_as_defined() {
+    let compared = compare(&PIECES, 2, |tally, spelled| {
+        let len = Text::new(spelled).plain.len();
+        for start in 0..=len {
+            for end in start..=len {
+                for later in start..=len {
+                    for last in later..=len + 1 {
+                        expect_each_replaced(tally, spelled, &[start..end, later..last]);
+                    }
+                }
+            }
+        }
+    });
+    assert_eq!(compared, 1_963_767);
 }
 
 /// The text with each match replaced, the last one first.
