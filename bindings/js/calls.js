@@ -22,7 +22,8 @@ function isSo(name, text, pattern) {
 /** The text that an export makes by all steps, or null if one is refused. */
 function stepped(name, text, steps) {
   const texts = [text, ...steps.map((step) => step.pattern)];
-  return called(texts, steps, roomForOne,
+  const words = steps.map(({ kind, place = 0, first, second }) => [BigInt(kind) + (BigInt(place) << 32n), first, second]);
+  return called(texts, words, roomForOne,
     (exports, frame) => exports[name](...frame.head, ...frame.texts[0], BigInt(frame.steps), BigInt(steps.length), ...frame.out), written);
 }
 
@@ -82,6 +83,12 @@ const raw = {
   replaceAll(text, pattern, replacement) {
     return called([text, pattern, replacement], [], roomForOne, (exports, frame) => exports.ansi_str_raw_replace_all(
       ...frame.head, ...frame.texts[0], ...frame.texts[1], ...frame.texts[2], ...frame.out), written);
+  },
+
+  /** The text with a text of its own in place of each range in bytes, or null if the ranges are refused. */
+  replaceEach(text, ranges, replacements) {
+    return called([text, ...replacements], ranges, roomForOne, (exports, frame) => exports.ansi_str_raw_replace_each(
+      ...frame.head, ...frame.texts[0], BigInt(frame.steps), BigInt(ranges.length), ...frame.out), written);
   },
 
   link(text, start, end, address) {
@@ -489,9 +496,8 @@ function checkRange(plain, start, end) {
   }
 }
 
-export function restyle(text, ranges, style) {
-  textOf('text', text);
-  const codes = codesOf(style);
+/** The positions of ranges in order. */
+function positionsOf(ranges) {
   const positions = [];
   let before = 0;
   for (const [first, last] of ranges) {
@@ -505,12 +511,22 @@ export function restyle(text, ranges, style) {
     positions.push(start, end);
     before = end;
   }
-  const places = isAscii(text) ? positions : positions.map(placesIn(raw.strip(text)));
-  const restyled = raw.restyle(text, places, codes);
-  if (restyled === null) {
+  return positions;
+}
+
+/** What is made of a text and positions in bytes; it is refused only for the ranges. */
+function madeInRanges(text, positions, make) {
+  const made = make(isAscii(text) ? positions : positions.map(placesIn(raw.strip(text))));
+  if (made === null) {
     pairsOf(positions).forEach(([start, end]) => checkRange(strip(text), start, end));
   }
-  return restyled;
+  return made;
+}
+
+export function restyle(text, ranges, style) {
+  textOf('text', text);
+  const codes = codesOf(style);
+  return madeInRanges(text, positionsOf(ranges), (places) => raw.restyle(text, places, codes));
 }
 
 /** What is made of a text and a range in bytes; it is refused only for the range. */
@@ -550,6 +566,13 @@ export function insert(text, position, added) {
 
 export function replaceAll(text, pattern, replacement) {
   return raw.replaceAll(textOf('text', text), textOf('pattern', pattern), textOf('replacement', replacement));
+}
+
+export function replaceEach(text, replacements) {
+  textOf('text', text);
+  const given = Array.from(replacements, ([start, end, replacement]) => [start, end, textOf('replacement', replacement)]);
+  const news = given.map(([, , replacement]) => replacement);
+  return madeInRanges(text, positionsOf(given), (places) => raw.replaceEach(text, pairsOf(places), news));
 }
 
 export function link(text, start, end, address) {

@@ -115,6 +115,14 @@ export function insert(text: string, position: number, added: string): string;
 export function replaceAll(text: string, pattern: string, replacement: string): string;
 
 /**
+ * The text with a text of its own in place of each of many ranges, in one pass. A replacement is a start, an end and a new text; the positions
+ * are those of this text, in order, and the ranges don't overlap. Each range is replaced as `replace` does it: its new text is in the style and
+ * the link that the character before the range has in this text. Every other character keeps its style and its link. Texts at the same
+ * position come in order. Throws a RangeError as `restyle` does, for the ranges.
+ */
+export function replaceEach(text: string, replacements: Iterable<[number, number, string]>): string;
+
+/**
  * The text with what its plain text has from `start` to `end` linked to an address (OSC 8). Each character there loses another link that it had.
  * Every other character keeps its link: one that goes on into the range ends before it, and one that goes on after it is opened again there. The
  * plain text, the styles and all other sequences stay. Throws as `remove` does, and a RangeError if the address is empty or has anything but

@@ -123,15 +123,13 @@ class Frame {
     this.reserve(this.size + UNIT * texts.length);
     this.texts = texts.map((text) => this.put(text));
     this.behind = this.free;
-    steps.forEach(({ kind, place = 0, first, second }, index) => {
-      const at = this.steps + index * STEP;
-      this.view.setUint32(at, kind, true);
-      this.view.setUint32(at + 4, place, true);
-      this.setWord(at + 8, BigInt(first));
-      this.setWord(at + 16, BigInt(second));
-      // (the text before the patterns of the steps)
-      this.setWord(at + 24, this.texts[index + 1][0]);
-      this.setWord(at + 32, this.texts[index + 1][1]);
+    let at = this.steps;
+    steps.forEach((words, index) => {
+      // (the text before those of the steps)
+      for (const word of [...words, ...this.texts[index + 1]]) {
+        this.setWord(at, BigInt(word));
+        at += 8;
+      }
     });
   }
 
@@ -283,8 +281,8 @@ function arenaOf(texts, room) {
 const named = (error) => (error instanceof RangeError || error.code === 'ERR_STRING_TOO_LONG' ? new OutOfMemoryError() : error);
 
 /**
- * Makes a call, whose first room is what `roomOf` makes of the size of the texts. Returns what `read` makes of the frame, or null if the
- * call has no result.
+ * Makes a call, whose first room is what `roomOf` makes of the size of the texts. A step is the words before its text; the texts of the
+ * steps come after the first one. Returns what `read` makes of the frame, or null if the call has no result.
  */
 export function called(texts, steps, roomOf, ask, read) {
   try {

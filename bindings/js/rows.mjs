@@ -67,6 +67,13 @@ function orNull(call) {
   }
 }
 
+/** The replacements of a row, each of three fields: where its range begins and ends, and a text. */
+function replacementsOf(text, fields, ansi) {
+  const plain = ansi.strip(text);
+  const placed = fields.map((field, index) => (index % 3 < 2 ? inUnits(plain, Number(field)) : field));
+  return Array.from({ length: fields.length / 3 }, (_, index) => placed.slice(3 * index, 3 * index + 3));
+}
+
 /** The edits by columns of a row, each of five fields, or null if one has no such kind, side or alignment. */
 function columnEditsOf(fields) {
   const [sides, alignments] = [['end', 'start', 'middle'], ['left', 'center', 'right']];
@@ -105,6 +112,8 @@ function answersOf(ansi, call, found, want, text, more) {
       return [[orNull(() => ansi.insert(text, first, second)), found]];
     case 'replace_all':
       return [[ansi.replaceAll(text, first, second), want]];
+    case 'replace_each':
+      return [[orNull(() => ansi.replaceEach(text, replacementsOf(text, more, ansi))), found]];
     case 'link':
       return [[orNull(() => ansi.link(text, first, second, more[2])), found]];
     case 'unlink':
@@ -211,7 +220,8 @@ function whyNot(ansi, [call, status, want, text, ...more]) {
     return call;
   }
   const given = more.map((each, index) => (index < (POSITIONS[call] ?? 0) ? inUnits(ansi.strip(text), Number(each)) : each));
-  if (given.includes(null) || (call === 'restyle' && rangesOf(text, more.slice(1), ansi).flat().includes(null))) {
+  if (given.includes(null) || (call === 'restyle' && rangesOf(text, more.slice(1), ansi).flat().includes(null)) ||
+      (call === 'replace_each' && replacementsOf(text, more, ansi).flat().includes(null))) {
     return 'a position inside a character';
   }
   for (const pair of answersOf(ansi, call, status === '0' ? want : null, want, text, given)) {

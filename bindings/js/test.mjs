@@ -10,7 +10,7 @@ import { setFlagsFromString } from 'node:v8';
 import { runInNewContext } from 'node:vm';
 import {
   OutOfMemoryError, blocks, columnOf, cut, edit, endsWith, expandTabs, find, findFrom, fit, fitting, floorCharBoundary, hasAny, isSafe, isWhole, iterBlocks, iterLines, iterSplit, lines, linkAt,
-  insert, link, links, mark, matches, pad, part, penAfter, remove, replace, replaceAll, restyle, sanitize, sliceColumns, split, splitAt, startsWith, strip, stripPrefix, stripSuffix, trim, truncate, unlink, width, wrap,
+  insert, link, links, mark, matches, pad, part, penAfter, remove, replace, replaceAll, replaceEach, restyle, sanitize, sliceColumns, split, splitAt, startsWith, strip, stripPrefix, stripSuffix, trim, truncate, unlink, width, wrap,
 } from './index.js';
 import * as ansiStr from './index.js';
 import { called, written } from './memory.js';
@@ -125,6 +125,9 @@ test('a replacement, an added text and a link count UTF-16 units, and a bad rang
   assert.equal(insert('\x1b[1m😀a', 2, 'é'), '\x1b[1m😀éa');
   assert.equal(replaceAll('😀a\x1b[1m😀', '😀', '$&é'), '$&éa$&é\x1b[1m');
   assert.equal(replaceAll('é'.repeat(1000), '', '12'), `${'12é'.repeat(1000)}12`);
+  assert.equal(replaceEach('😀a\x1b[1m😀', [[0, 2, 'é'], [2, 2, '$&'], [3, 5, '']]), 'é$&a\x1b[1m');
+  assert.equal(replaceEach('é'.repeat(1000), Array.from({ length: 1001 }, (_, place) => [place, place, '12'])), `${'12é'.repeat(1000)}12`);
+  assert.equal(replaceEach('\x1b[1ma', new Set()), '\x1b[1ma');
   assert.equal(link('😀a', 0, 2, 'u'), '\x1b]8;;u\x1b\\😀\x1b]8;;\x1b\\a');
   assert.deepEqual(links('😀\x1b]8;;é\x1b\\a😀\x1b]8;;v\x1b\\b'), [{ start: 2, end: 5, address: 'é' }, { start: 5, end: 6, address: 'v' }]);
   assert.equal(links('\x1b]8;;u\x07a'.repeat(1000)).length, 1000);
@@ -135,7 +138,11 @@ test('a replacement, an added text and a link count UTF-16 units, and a bad rang
       assert.throws(() => replace(text, 0, end, 'x'), refused(`the end, ${end}, is past the end of the plain text, 3`));
       assert.throws(() => link(text, 0, end, 'x'), refused(`the end, ${end}, is past the end of the plain text, 3`));
       assert.throws(() => insert(text, end, 'x'), refused(`the position, ${end}, is past the end of the plain text, 3`));
+      assert.throws(() => replaceEach(text, [[0, 0, 'x'], [2, end, 'x']]), refused(`the end, ${end}, is past the end of the plain text, 3`));
     }
+    assert.throws(() => replaceEach(text, [[0, 2, 'x'], [1, 3, 'x']]), refused('a range begins before the one before it ends: 1 is below 2'));
+    assert.throws(() => replaceEach(text, [[2, 1, 'x']]), refused('the end, 1, is before the start, 2'));
+    assert.throws(() => replaceEach(text, [[0, 0]]), /the replacement must be a string/);
     assert.throws(() => replace(text, 2, 1, 'x'), refused('the end, 1, is before the start, 2'));
     assert.throws(() => link(text, 2, 1, 'x'), refused('the end, 1, is before the start, 2'));
     assert.throws(() => insert(text, -1, 'x'), refused('the position is below 0: -1'));
@@ -151,6 +158,7 @@ test('a replacement, an added text and a link count UTF-16 units, and a bad rang
   }
   for (const range of [[0, 1], [1, 2], [1, 1]]) {
     assert.throws(() => replace('\x1b[1m😀', ...range, 'x'), refused('the position 1 is inside a character'));
+    assert.throws(() => replaceEach('\x1b[1m😀', [[...range, 'x']]), refused('the position 1 is inside a character'));
     assert.throws(() => link('\x1b[1m😀', ...range, 'x'), refused('the position 1 is inside a character'));
   }
   assert.throws(() => insert('\x1b[1m😀', 1, 'x'), refused('the position 1 is inside a character'));

@@ -116,6 +116,7 @@ MADE = {
     "replace": lambda text, start, end, new: [or_none(ansi_str.replace, text, start, end, new)],
     "insert": lambda text, position, new: [or_none(ansi_str.insert, text, position, new)],
     "replace_all": lambda text, pattern, new: [ansi_str.replace_all(text, pattern, new)],
+    "replace_each": lambda text, *given: [or_none(ansi_str.replace_each, text, given), or_none(ansi_str.replace_each, text, iter(given))],
     "link": lambda text, start, end, address: [or_none(ansi_str.link, text, start, end, address)],
     "unlink": lambda text: [ansi_str.unlink(text)],
     "links": lambda text, *_: [[(link.start, link.end, link.address) for link in ansi_str.links(text)]],
@@ -191,6 +192,10 @@ class Rows(unittest.TestCase):
             ranges = [tuple(in_characters(ansi_str.strip(text), int(position)) for position in each.split(",")) for each in more[1:]]
             positions += [None for each in ranges if None in each]
             more = [more[0], *ranges]
+        if call == "replace_each":
+            places = [in_characters(ansi_str.strip(text), int(position)) for at, position in enumerate(more) if at % 3 < 2]
+            positions += [None for place in places if place is None]
+            more = list(zip(places[::2], places[1::2], more[2::3]))
         if None in positions:
             return "a position inside a character"
         wanted = said(call, status, want, text, more)
@@ -227,7 +232,7 @@ CALLS = {"strip": [], "cut": [0], "left": [0], "right": [0], "part": [",", 0], "
          "expand_tabs": [8], "wrap": [1], "lines": [1], "iter_lines": [1], "find": [""], "starts_with": [""], "ends_with": [""], "has_any": [], "is_whole": [], "split": [","],
          "iter_split": [","], "blocks": [], "iter_blocks": [], "pen_after": [], "edit": [[]], "edit_columns": [[]], "sanitize": [], "is_safe": [], "link_at": [0],
          "matches": ["a"], "find_from": [0, "a"], "restyle": [[(0, 0)], "1"], "mark": ["a", "1"], "remove": [0, 0],
-         "replace": [0, 0, "b"], "insert": [0, "b"], "replace_all": ["a", "b"], "link": [0, 0, "b"], "unlink": [], "links": []}
+         "replace": [0, 0, "b"], "insert": [0, "b"], "replace_all": ["a", "b"], "replace_each": [[]], "link": [0, 0, "b"], "unlink": [], "links": []}
 PATTERNED = ["matches", "mark", "replace_all", "part", "strip_prefix", "strip_suffix", "find", "starts_with", "ends_with", "split", "iter_split"]
 HUGE = [2**31, 2**63 - 1, 2**63, 2**64 - 1, 2**64, 2**64 + 1, 2**200]
 
@@ -310,12 +315,16 @@ class Arguments(unittest.TestCase):
             self.refused(ValueError, "the end lies before the start: 0 is below 1", ansi_str.restyle, text, [(1, 0)], "1")
             for huge in [4, *HUGE]:
                 self.refused(ValueError, "a range ends past the end of the plain text: %d" % huge, ansi_str.restyle, text, [(0, huge)], "1")
+                self.refused(ValueError, "a range ends past the end of the plain text: %d" % huge, ansi_str.replace_each, text, [(0, huge, "b")])
                 self.refused(ValueError, "no range of the plain text: 0 up to %d" % huge, ansi_str.remove, text, 0, huge)
                 self.refused(ValueError, "no range of the plain text: %d up to 0" % huge, ansi_str.remove, text, huge, 0)
                 self.assertIsNone(ansi_str.find_from(text, huge, ""))
+            self.refused(ValueError, "a range begins before the one before it ends: 1 is below 2", ansi_str.replace_each, text, [(0, 2, ""), (1, 3, "")])
+            self.refused(ValueError, "the end lies before the start: 0 is below 1", ansi_str.replace_each, text, [(1, 0, "")])
             for wrong in ([1], [(1,)], [(0, 1, 2)], [None], None, 1):
-                with self.assertRaises((TypeError, ValueError)):
-                    ansi_str.restyle(text, wrong, "1")
+                for call in (lambda given: ansi_str.restyle(text, given, "1"), lambda given: ansi_str.replace_each(text, given)):
+                    with self.assertRaises((TypeError, ValueError)):
+                        call(wrong)
             for call in (lambda style: ansi_str.mark(text, "z", style), lambda style: ansi_str.restyle(text, [], style)):
                 for wrong in ("1m", "m", " 1", "1,2", "\x1b[1m", "\uff11"):
                     self.refused(ValueError, "style must have only digits, ';' and ':', not " + repr(wrong), call, wrong)
@@ -339,13 +348,16 @@ class Arguments(unittest.TestCase):
             for wrong in ("", "a\nb", "\x1b\\", "\x7f", "\xe9"):
                 self.refused(ValueError, "address must be printable ASCII, and not empty, not " + repr(wrong), ansi_str.link, text, 0, 1, wrong)
             for call, name in ((lambda new: ansi_str.replace(text, 0, 0, new), "new"), (lambda new: ansi_str.insert(text, 0, new), "new"),
-                               (lambda new: ansi_str.replace_all(text, "z", new), "new"), (lambda address: ansi_str.link(text, 0, 1, address), "address")):
+                               (lambda new: ansi_str.replace_all(text, "z", new), "new"), (lambda new: ansi_str.replace_each(text, [(0, 0, new)]), "new"),
+                               (lambda address: ansi_str.link(text, 0, 1, address), "address")):
                 self.refused(TypeError, name + " must be a str, not int", call, 1)
                 self.refused(UnicodeEncodeError, name + " has a lone surrogate", call, "\ud800")
         self.assertEqual(ansi_str.replace("\xe9b\x1b[1m\xe9", 1, 2, "\xe7"), "\xe9\xe7\x1b[1m\xe9")
         self.assertEqual(ansi_str.insert("\xe9\x1b[1m\xe9", 1, "\xe7"), "\xe9\xe7\x1b[1m\xe9")
         self.assertEqual(ansi_str.replace_all("\xe9b\x1b[1m\xe9", "\xe9", "\xe7"), "\xe7b\xe7\x1b[1m")
         self.assertEqual(ansi_str.replace_all("\xe9" * 1000, "", "12"), "12\xe9" * 1000 + "12")
+        self.assertEqual(ansi_str.replace_each("\xe9b\x1b[1m\xe9", ((0, 1, "\xe7"), (1, 1, "\xe8"), (2, 3, ""))), "\xe7\xe8b\x1b[1m")
+        self.assertEqual(ansi_str.replace_each("\xe9" * 1000, [(place, place, "12") for place in range(1001)]), "12\xe9" * 1000 + "12")
         self.assertEqual(ansi_str.link("\xe9b\xe7", 1, 2, "u"), "\xe9\x1b]8;;u\x1b\\b\x1b]8;;\x1b\\\xe7")
         self.assertEqual(ansi_str.links("\xe9\x1b]8;;u\x1b\\\xe9\x1b]8;;v\x1b\\b"), [(1, 2, "u"), (2, 3, "v")])
         self.assertEqual(len(ansi_str.links("\x1b]8;;%s\x07\xe9" % ("u" * 100) * 1000)), 1000)
@@ -616,6 +628,9 @@ class Private(unittest.TestCase):
         "steps": [(wrong, TypeError) for wrong in TYPES + [b"a", 1, (1,), ((),), ((0, 0, 0),), ((0, 0, 0, b"", 0),), ([0, 0, 0, b""],)]],
         "ranges": [(wrong, TypeError) for wrong in TYPES + [b"a", 1, (1,), ((),), ((0,),), ((0, 1, 2),), ([0, 1],), ((None, 1),), ((0, "a"),)]]
                   + [(wrong, ValueError) for wrong in (((-1, 1),), ((0, -1),), ((1, 0),), ((0, 1), (0, 1)))],
+        "replacements": [(wrong, TypeError) for wrong in TYPES + [b"a", 1, (1,), ((),), ((0, 1),), ((0, 1, b"", 2),), ([0, 1, b""],), ((None, 1, b""),),
+                                                                  ((0, 1, "a"),), ((0, 1, None),), ((0, 1, bytearray(b"a")),)]]
+                        + [(wrong, ValueError) for wrong in (((-1, 1, b""),), ((1, 0, b""),), ((0, 1, b""), (0, 1, b"")), ((0, 1, b"\xff"),))],
         "bool": [],
     }
     # good arguments of each call
@@ -630,6 +645,7 @@ class Private(unittest.TestCase):
         "restyle": [("bytes", b"a"), ("bool", True), ("ranges", ((0, 1),)), ("bytes", b"1")],
         "matches": [("bytes", b"a"), ("bool", True), ("bytes", b"a")],
         "replace_all": [("bytes", b"a"), ("bytes", b"a"), ("bytes", b"b")],
+        "replace_each": [("bytes", b"a"), ("bool", True), ("replacements", ((0, 1, b"b"),))],
         "links": [("bytes", b"a"), ("bool", True)],
     }
 

@@ -36,6 +36,8 @@ def calls():
         yield lambda: _library.replace_all(data, b"e", b"\x1b[1mnew")
         for ranges in ((), ((0, 0),), ((0, 1), (1, 3)), ((2, 900),)):
             yield lambda: _library.restyle(data, is_ascii, ranges, b"1")
+            replacements = tuple((start, end, b"\x1b[1mnew") for start, end in ranges)
+            yield lambda: _library.replace_each(data, is_ascii, replacements)
         for pattern in (b"", b",", b"z"):
             yield lambda: _library.matches(data, is_ascii, pattern)
         yield lambda: _library.links(data, is_ascii)

@@ -34,9 +34,10 @@ The calls, each of which has an example in its own help, such as `help(ansi_str.
     mark(text, pattern, style)         restyle(text, ranges, style)
     remove(text, start, end)           codes(*, foreground=None, background=None, bold=True, ...)
     replace(text, start, end, new)     insert(text, position, new)
-    replace_all(text, pattern, new)    link(text, start, end, address)
-    unlink(text)                       links(text)
-    pen_after(text)                    edit_columns(text, edits)
+    replace_all(text, pattern, new)    replace_each(text, replacements)
+    link(text, start, end, address)    unlink(text)
+    links(text)                        pen_after(text)
+    edit_columns(text, edits)
 
 The classes, each with a help of its own: `Block` and `Style`, which `blocks` returns, `Link`, which `links` returns, `Pen`, which
 `pen_after` returns; the edits `Cut`, `Left`, `Right`, `Part`, `Prefix`, `Suffix` and `Trim`; and the edits by columns `Expand`,
@@ -67,7 +68,7 @@ __all__ = [
     "ALIGNMENTS", "SIDES",
     "find", "find_from", "matches", "starts_with", "ends_with", "has_any", "is_whole",
     "mark", "restyle", "remove", "codes",
-    "replace", "insert", "replace_all", "link", "unlink", "links",
+    "replace", "insert", "replace_all", "replace_each", "link", "unlink", "links",
     "sanitize", "is_safe",
     "split", "iter_split", "blocks", "iter_blocks", "pen_after", "ATTRIBUTES", "COLORS",
     "edit", "edit_columns",
@@ -547,6 +548,28 @@ def replace_all(text: str, pattern: str, new: str) -> str:
     return _library.replace_all(_utf8("text", text), _utf8("pattern", pattern), _utf8("new", new))  # type: ignore[no-any-return]
 
 
+def replace_each(text: str, replacements: Iterable[Tuple[int, int, str]]) -> str:
+    """The text with a text of its own in place of each of many ranges, in one pass. A replacement is a start, an end and a new text;
+    the positions are those of this text, in order, and the ranges don't overlap. Each range is replaced as `replace` does it: its
+    new text is in the style and the link that the character before the range has in this text. Every other character keeps its
+    style and its link. Texts at the same position come in order. ValueError: as by `restyle`, for the ranges.
+
+    >>> replace_each("\\x1b[32mone\\x1b[39m two", [(0, 3, "1"), (4, 7, "2")])
+    '\\x1b[32m1\\x1b[39m 2'
+    """
+    data = _utf8("text", text)
+    given: List[Tuple[int, int, bytes]] = []
+    before = 0
+    for start, end, new in replacements:
+        start, end = _range_from(before, start, end)
+        given.append((start, end, _utf8("new", new)))
+        before = end
+    replaced = _library.replace_each(data, len(data) == str.__len__(text), tuple(given))
+    if replaced is None:
+        raise ValueError("a range ends past the end of the plain text: {}".format(before))
+    return replaced  # type: ignore[no-any-return]
+
+
 def link(text: str, start: int, end: int, address: str) -> str:
     """The text with what its plain text has from one position up to another linked to an address (OSC 8). Each character there loses
     another link that it had. Every other character keeps its link: one that goes on into the range ends before it, and one that goes
@@ -658,6 +681,16 @@ def mark(text: str, pattern: str, style: Union[str, "Style"]) -> str:
     return _library.mark(_utf8("text", text), _utf8("pattern", pattern), _given_codes(style))  # type: ignore[no-any-return]
 
 
+def _range_from(before: int, start: int, end: int) -> Tuple[int, int]:
+    """A range that begins where the one before it ends, or later."""
+    start, end = _position("start", start), _position("end", end)
+    if start < before:
+        raise ValueError("a range begins before the one before it ends: {} is below {}".format(start, before))
+    if end < start:
+        raise ValueError("the end lies before the start: {} is below {}".format(end, start))
+    return start, end
+
+
 def restyle(text: str, ranges: Iterable[Tuple[int, int]], style: Union[str, "Style"]) -> str:
     """The text with SGR codes applied to each character in ranges: pairs of positions in order, which don't overlap. The style is
     the codes as an SGR has them, such as `1;31`, or as `codes` makes them, or a `Style`. Each character there has its own style
@@ -677,11 +710,7 @@ def restyle(text: str, ranges: Iterable[Tuple[int, int]], style: Union[str, "Sty
     pairs: List[Tuple[int, int]] = []
     before = 0
     for start, end in ranges:
-        start, end = _position("start", start), _position("end", end)
-        if start < before:
-            raise ValueError("a range begins before the one before it ends: {} is below {}".format(start, before))
-        if end < start:
-            raise ValueError("the end lies before the start: {} is below {}".format(end, start))
+        start, end = _range_from(before, start, end)
         pairs.append((start, end))
         before = end
     restyled = _library.restyle(data, len(data) == str.__len__(text), tuple(pairs), given)

@@ -15,7 +15,7 @@ enum { LONG = 1 << 16 };
 /* kinds beside those of edits; SANITIZE takes any bytes */
 enum { TRUNCATE = ANSI_STR_EDIT_TRIM + 1, FIT, PAD, SANITIZE, LINK_AT, SLICE, EXPAND_TABS, REMOVE, REPLACE, LINK, UNLINK, PEN_START, PEN_END,
        STRIP, KINDS };
-enum { MARK = KINDS, REPLACE_ALL, RESTYLE };
+enum { MARK = KINDS, REPLACE_ALL, RESTYLE, REPLACE_EACH };
 
 /* the questions about a text: those up to IS_SAFE are yes or no, those from FIND to FITTING return a position, the others columns */
 enum { STARTS_WITH, ENDS_WITH, HAS_ANY, IS_WHOLE, IS_SAFE, FIND, FIND_FROM, FITTING, WIDTH, COLUMN_OF, QUESTIONS };
@@ -27,12 +27,15 @@ typedef struct {
     size_t size;
 } Text;
 
-/* an edit, or a step of another kind; the codes of MARK and RESTYLE, or the new text of REPLACE_ALL; and the ranges of RESTYLE */
+/* an edit, or a step of another kind; the codes of MARK and RESTYLE, or the new text of REPLACE_ALL; the ranges of RESTYLE, or those of
+   REPLACE_EACH with their texts, and how many bytes these texts have */
 typedef struct {
     ansi_str_edit_step edit;
     Text with;
     const ansi_str_range *ranges;
+    const ansi_str_replacement *replacements;
     size_t ranges_len;
+    size_t new_len;
 } Step;
 
 static Text text_of(PyObject *object) {
@@ -91,7 +94,7 @@ static void run_alone(PyThreadState *thread) {
 static Step step_of(uint32_t kind, size_t first, size_t second, PyObject *pattern) {
     const char *bytes = pattern == NULL ? NULL : PyBytes_AsString(pattern);
     size_t size = pattern == NULL ? 0 : (size_t)PyBytes_Size(pattern);
-    return (Step){ansi_str_edit_of(kind, first, second, bytes, size), {NULL, NULL, 0}, NULL, 0};
+    return (Step){ansi_str_edit_of(kind, first, second, bytes, size), {NULL, NULL, 0}, NULL, NULL, 0, 0};
 }
 
 static ansi_str_answer write_step(const Text *text, const Step *made, const Text *room) {
@@ -139,6 +142,8 @@ static ansi_str_answer write_step(const Text *text, const Step *made, const Text
     case RESTYLE:
         return ansi_str_raw_restyle(text->bytes, text->size, made->ranges, made->ranges_len, made->with.bytes, made->with.size,
                                     room->bytes, room->size);
+    case REPLACE_EACH:
+        return ansi_str_raw_replace_each(text->bytes, text->size, made->replacements, made->ranges_len, room->bytes, room->size);
     default:
         return ansi_str_raw_edit(text->bytes, text->size, step, 1, room->bytes, room->size);
     }
@@ -158,7 +163,7 @@ static bool changes_matches(uint32_t kind) {
 static bool make_step(const Text *text, const Step *step, Text *made) {
     /* (what a mark, a range and a new text write is most often shorter than this) */
     size_t more = changes_matches(step->edit.kind) ? text->size + step->with.size : 48 * step->ranges_len + step->edit.pattern_len;
-    size_t size = text->size + more + ANSI_STR_LONGEST_START_AND_CLOSE;
+    size_t size = text->size + more + step->new_len + ANSI_STR_LONGEST_START_AND_CLOSE;
     ansi_str_answer answer;
     do {
         PyThreadState *thread;
@@ -345,32 +350,66 @@ static PyObject *replace_all(PyObject *module, PyObject *words) {
     return changed(REPLACE_ALL, words);
 }
 
-/* Reads ranges of positions in characters, each from where the one before ends or later, as ranges in bytes of a plain text. If there
-   is none, a character is a byte. Returns false with an error. */
-static bool read_ranges(PyObject *given, const Text *plain, ansi_str_range *ranges) {
-    size_t place = 0, characters = 0;
-    Py_ssize_t at;
-    for (at = 0; at < PyTuple_Size(given); at++) {
-        PyObject *pair = PyTuple_GetItem(given, at);
-        size_t ends[2], which;
-        if (!PyTuple_Check(pair) || PyTuple_Size(pair) != 2) {
-            PyErr_SetString(PyExc_TypeError, "a range must be a tuple of two");
+/* The last position that was read, in characters, and its place in bytes. */
+typedef struct {
+    size_t characters;
+    size_t place;
+} Position;
+
+/* Reads where a range begins and ends, by the first two of a tuple of so many: positions in characters, from the last one on, as places
+   in bytes of a plain text. If there is none, a character is a byte. Returns false with an error. */
+static bool read_range(PyObject *given, Py_ssize_t members, const Text *plain, Position *last, size_t *start, size_t *end) {
+    size_t *ends[2] = {start, end}, which;
+    if (!PyTuple_Check(given) || PyTuple_Size(given) != members) {
+        PyErr_SetString(PyExc_TypeError, members == 2 ? "a range must be a tuple of two" : "a replacement must be a tuple of three");
+        return false;
+    }
+    for (which = 0; which < 2; which++) {
+        size_t position;
+        if (!read_number(PyTuple_GetItem(given, (Py_ssize_t)which), &position)) {
             return false;
         }
-        for (which = 0; which < 2; which++) {
-            size_t position;
-            if (!read_number(PyTuple_GetItem(pair, (Py_ssize_t)which), &position)) {
-                return false;
-            }
-            if (position < characters) {
-                PyErr_SetString(PyExc_ValueError, "the ranges aren't in order");
-                return false;
-            }
-            place = plain == NULL ? position : place_past(plain, place, position - characters);
-            characters = position;
-            ends[which] = place;
+        if (position < last->characters) {
+            PyErr_SetString(PyExc_ValueError, "the ranges aren't in order");
+            return false;
         }
-        ranges[at] = (ansi_str_range){ends[0], ends[1]};
+        last->place = plain == NULL ? position : place_past(plain, last->place, position - last->characters);
+        last->characters = position;
+        *ends[which] = last->place;
+    }
+    return true;
+}
+
+/* Reads ranges, each from where the one before ends or later. Returns false with an error. */
+static bool read_ranges(PyObject *given, const Text *plain, ansi_str_range *ranges) {
+    Position last = {0, 0};
+    Py_ssize_t at;
+    for (at = 0; at < PyTuple_Size(given); at++) {
+        if (!read_range(PyTuple_GetItem(given, at), 2, plain, &last, &ranges[at].start, &ranges[at].end)) {
+            return false;
+        }
+    }
+    return true;
+}
+
+/* Reads such ranges with their new texts, whose bytes it counts. Returns false with an error. */
+static bool read_replacements(PyObject *given, const Text *plain, ansi_str_replacement *replacements, size_t *new_len) {
+    Position last = {0, 0};
+    Py_ssize_t at;
+    for (at = 0; at < PyTuple_Size(given); at++) {
+        PyObject *members = PyTuple_GetItem(given, at);
+        Text with;
+        if (!read_range(members, 3, plain, &last, &replacements[at].start, &replacements[at].end)) {
+            return false;
+        }
+        if (!PyBytes_Check(PyTuple_GetItem(members, 2))) {
+            PyErr_SetString(PyExc_TypeError, "a new text must be bytes");
+            return false;
+        }
+        with = text_of(PyTuple_GetItem(members, 2));
+        replacements[at].with = with.bytes;
+        replacements[at].with_len = with.size;
+        *new_len += with.size;
     }
     return true;
 }
@@ -399,6 +438,33 @@ static PyObject *restyle(PyObject *module, PyObject *words) {
     }
     Py_DecRef(plain.object);
     PyMem_Free(ranges);
+    return answer;
+}
+
+/* (text, is_ascii, replacements): the text with a text of its own in place of each range, or None if the ranges are refused. */
+static PyObject *replace_each(PyObject *module, PyObject *words) {
+    PyObject *given, *triples, *answer = NULL;
+    int is_ascii;
+    Text text, plain = {NULL, NULL, 0};
+    Step step = step_of(REPLACE_EACH, 0, 0, NULL);
+    ansi_str_replacement *replacements;
+    (void)module;
+    if (!PyArg_ParseTuple(words, "SpO!", &given, &is_ascii, &PyTuple_Type, &triples)) {
+        return NULL;
+    }
+    text = text_of(given);
+    step.ranges_len = (size_t)PyTuple_Size(triples);
+    replacements = PyMem_Malloc((step.ranges_len + 1) * sizeof *replacements);
+    step.replacements = replacements;
+    if (replacements == NULL) {
+        return PyErr_NoMemory();
+    }
+    if ((is_ascii || make_plain(&text, &plain)) &&
+        read_replacements(triples, is_ascii ? NULL : &plain, replacements, &step.new_len)) {
+        answer = text_made(&text, &step);
+    }
+    Py_DecRef(plain.object);
+    PyMem_Free(replacements);
     return answer;
 }
 
@@ -872,6 +938,7 @@ static PyMethodDef calls[] = {
     {"strip", strip, METH_VARARGS, NULL}, {"wrap", wrap, METH_VARARGS, NULL}, {"walk_lines", walk_lines, METH_VARARGS, NULL},
     {"mark", mark, METH_VARARGS, NULL},   {"restyle", restyle, METH_VARARGS, NULL}, {"matches", matches, METH_VARARGS, NULL},
     {"links", links, METH_VARARGS, NULL}, {"replace_all", replace_all, METH_VARARGS, NULL},
+    {"replace_each", replace_each, METH_VARARGS, NULL},
     {NULL, NULL, 0, NULL},
 };
 
