@@ -1,5 +1,5 @@
 // In place of the package wrap-ansi. README.md says what differs.
-import { cut, fitting, hasAny, lines, strip, width, wrap } from 'ansi_str';
+import { fitting, lines, replaceEach, strip, width, wrap } from 'ansi_str';
 
 /** Wider than any text. */
 const ENDLESS = Number.MAX_SAFE_INTEGER;
@@ -18,32 +18,10 @@ function linesOf(text, trim) {
   });
 }
 
-/** The index in the text of the character at a position of the plain text: a cut before it is the text up to there, and what closes it. */
-function indexOf(text, position) {
-  if (!hasAny(text)) {
-    return position;
-  }
-  const front = cut(text, 0, position);
-  let index = 0;
-  while (index < front.length && front[index] === text[index]) {
-    index++;
-  }
-  return index;
-}
-
-/**
- * The text after edits. An edit has a position of the plain text, which begins at `from`; how many units it removes, one at most; and
- * what it inserts.
- */
-function edited(text, edits, from = 0) {
-  if (edits.length === 0) {
-    return text;
-  }
-  const middle = edits.length >> 1;
-  const [position, removed, inserted] = edits[middle];
-  const index = indexOf(text, position - from);
-  const left = edited(text.slice(0, index), edits.slice(0, middle), from);
-  return left + inserted + edited(text.slice(index + removed), edits.slice(middle + 1), position + removed);
+/** The replacements that put a text in place of a character of the plain text, in its style: right after it. */
+function replacing(position, character, added) {
+  const end = position + character.length;
+  return [[position, end, ''], [end, end, added]];
 }
 
 /** Where a word breaks if it fills each line, the first of which has `used` columns before it. */
@@ -78,7 +56,7 @@ function placeOf(more, used, columns, { hard, wordWrap }) {
   return { isNew: used > 0 && more > 0 && (wordWrap || used >= columns), fills: !wordWrap };
 }
 
-/** The edits that break a line of plain text. */
+/** The replacements that break a line of plain text. */
 function editsOf(plain, columns, options) {
   const edits = [];
   let [start, used] = [0, 0];
@@ -94,11 +72,12 @@ function editsOf(plain, columns, options) {
       used = 0;
     }
     if (blank !== ' ') {
-      edits.push([start - 1, 1, blank]);
+      edits.push(...replacing(start - 1, ' ', blank));
     }
     const breaks = fills ? breaksOf(word, used, columns) : [];
     for (const position of breaks) {
-      edits.push([start + position, 0, '\n']);
+      const character = String.fromCodePoint(word.codePointAt(position));
+      edits.push(...replacing(start + position, character, `\n${character}`));
     }
     used = breaks.length > 0 ? width(word.slice(breaks.at(-1))) : used + more;
     start += word.length + 1;
@@ -110,5 +89,5 @@ export default function wrapAnsi(string, columns, { hard = false, trim = true, w
   const options = { hard, trim, wordWrap };
   const most = Math.max(columns, 1);
   const paragraphs = linesOf(String(string).replaceAll('\r\n', '\n'), false);
-  return paragraphs.flatMap((line) => linesOf(edited(line, editsOf(strip(line), most, options)), trim)).join('\n');
+  return paragraphs.flatMap((line) => linesOf(replaceEach(line, editsOf(strip(line), most, options)), trim)).join('\n');
 }

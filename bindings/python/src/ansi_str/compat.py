@@ -6,7 +6,6 @@ two columns, and lines keep their styles and links. README.md lists what differs
 """
 
 import itertools
-import os
 import re
 import textwrap
 from typing import Any, List, Optional, Tuple
@@ -19,7 +18,7 @@ __all__ = ["visible_width", "wcswidth", "TextWrapper", "wrap", "fill", "shorten"
 _ENDLESS = 2 ** 62
 # what keeps the blanks at the end of a line, until the library has closed its styles: a printing character, of private use
 _GUARD = "\ue000"
-# an edit: the position of the character that it removes, or of where it only inserts; how many it removes; what it inserts
+# a replacement of `ansi_str.replace_each`
 _Edit = Tuple[int, int, str]
 
 
@@ -41,25 +40,9 @@ def wcswidth(text: str) -> int:
     return ansi_str.width(text)
 
 
-def _index_of(text: str, position: int) -> int:
-    """The index in the text of the character at a position of the plain text: a cut is all up to there, and what closes it."""
-    return len(os.path.commonprefix([text, ansi_str.cut(text, 0, position)]))
-
-
-def _edited(text: str, edits: List[_Edit], start: int = 0) -> str:
-    """The text after edits. Its first character has the position `start`."""
-    if not edits:
-        return text
-    middle = len(edits) // 2
-    position, removed, inserted = edits[middle]
-    index = _index_of(text, position - start)
-    return (_edited(text[:index], edits[:middle], start) + inserted
-            + _edited(text[index + removed:], edits[middle + 1:], position + removed))
-
-
-def _replaced(start: int, end: int, inserted: str) -> List[_Edit]:
-    """The edits that put a text in the place of an interval of the plain text."""
-    return [(position, 1, "" if position > start else inserted) for position in range(start, end)]
+def _replaced(start: int, end: int, new: str) -> List[_Edit]:
+    """The edits that put a text in place of an interval of the plain text, in the style of its first character: right after that."""
+    return [(start, start + 1, ""), (start + 1, end, new)]
 
 
 def _after_blanks(plain: str, end: int, shown: str) -> Optional[int]:
@@ -112,8 +95,8 @@ class TextWrapper(textwrap.TextWrapper):
                 blanks = self.tabsize - column % self.tabsize if self.tabsize > 0 else 0
             column = 0 if match.group() in "\n\r" else column + blanks
             end = match.end()
-            edits.append((match.start(), 1, " " * blanks))
-        return _edited(text, edits)
+            edits += _replaced(*match.span(), " " * blanks)
+        return ansi_str.replace_each(text, edits)
 
     def _split(self, text: str) -> List[str]:
         return [_Text(chunk) for chunk in super()._split(text)]  # type: ignore[misc]
@@ -142,7 +125,7 @@ class TextWrapper(textwrap.TextWrapper):
 
     def _styled(self, text: str, plain: str, lines: List[str]) -> List[str]:
         """The lines of the plain text as those of the text."""
-        edits, ends = [], ""  # type: List[_Edit], str
+        edits, last, ends = [], "", ""  # type: List[_Edit], str, str
         end = 0
         for number, line in enumerate(lines):
             shown = str(line)[str.__len__(self.subsequent_indent if number else self.initial_indent):]
@@ -153,9 +136,15 @@ class TextWrapper(textwrap.TextWrapper):
                 shown = shown[:str.__len__(shown) - str.__len__(ends)]
                 start = _after_blanks(plain, end, shown) or end
             edge = _GUARD + "\n" if number else ""
-            edits += _replaced(end, start, edge) if start > end else [(start, 0, edge)]
+            first = plain[start:start + 1] if shown else ""
+            if start > end:
+                edits += _replaced(end, start, edge)
+            elif first:
+                edits += _replaced(start, start + 1, edge + first)
+            else:
+                last = edge
             end = start + len(shown)
-        closed = ansi_str.wrap(_edited(ansi_str.cut(text, 0, end), edits) + _GUARD, _ENDLESS)
+        closed = ansi_str.wrap(ansi_str.replace_each(ansi_str.cut(text, 0, end), edits) + last + _GUARD, _ENDLESS)
         indents = itertools.chain([self.initial_indent], itertools.repeat(self.subsequent_indent))
         made = [str(indent) + "".join(line.rpartition(_GUARD)[::2]) for indent, line in zip(indents, closed)]
         made[-1] += ends
@@ -191,4 +180,4 @@ def shorten(text: str, width: int, **options: Any) -> str:
     for match in re.finditer(r"\s+", plain):
         inside = 0 < match.start() and match.end() < len(plain)
         edits += _replaced(*match.span(), " " if inside else "")
-    return TextWrapper(width, max_lines=1, **options).fill(_edited(text, edits))
+    return TextWrapper(width, max_lines=1, **options).fill(ansi_str.replace_each(text, edits))
