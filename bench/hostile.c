@@ -63,6 +63,15 @@ static size_t restyle_to(struct bytes t, size_t n, struct bytes p) {
 static size_t replace_to(struct bytes t, size_t n, struct bytes p) {
     return len_of(ansi_str_replace(t.at, t.len, 0, n, p.at, p.len, NULL, 0));
 }
+/* all up to the position by nothing, and then the pattern by ten ranges there */
+static size_t replace_each_to(struct bytes t, size_t n, struct bytes p) {
+    ansi_str_replacement edits[11];
+    edits[0] = ansi_str_replacement_of(0, n, "", 0);
+    for (size_t i = 1; i < 11; i++) {
+        edits[i] = ansi_str_replacement_of(n, n, p.at, p.len);
+    }
+    return len_of(ansi_str_replace_each(t.at, t.len, edits, 11, NULL, 0));
+}
 static size_t link_to(struct bytes t, size_t n, struct bytes p) {
     (void)p;
     return len_of(ansi_str_link(t.at, t.len, 0, n, "u", 1, NULL, 0));
@@ -162,6 +171,7 @@ static const struct call CALLS[] = {
     {"sanitize", sanitize, 0, 0, 0}, {"sanitize_bytes", sanitize_bytes, 0, 0, 0}, {"is_safe", is_safe, 0, 0, 0},
     {"remove to", remove_to, 1, 0, 0}, {"restyle to", restyle_to, 1, 0, 0}, {"matches", matches, 0, 1, 1}, {"mark", mark, 0, 1, 0},
     {"replace to", replace_to, 1, 1, 0}, {"insert", insert, 1, 1, 0}, {"link to", link_to, 1, 0, 0}, {"unlink", without_links, 0, 0, 0},
+    {"replace_each to", replace_each_to, 1, 1, 0},
     {"links", links, 0, 0, 1}, {"pen_after", pen, 0, 0, 0}, {"replace_all", replace_all, 0, 1, 0},
     {"find_from", find_from, 1, 1, 0}, {"find", find, 0, 1, 0}, {"split", split, 0, 1, 1}, {"part", part, 1, 1, 0},
 };
