@@ -356,7 +356,7 @@ typedef struct {
     size_t place;
 } Position;
 
-/* Reads where a range begins and ends, by the first two of a tuple of so many: positions in characters, from the last one on, as places
+/* Reads where a range begins and ends, by the first two of a tuple of `members`: positions in characters, from the last one on, as places
    in bytes of a plain text. If there is none, a character is a byte. Returns false with an error. */
 static bool read_range(PyObject *given, Py_ssize_t members, const Text *plain, Position *last, size_t *start, size_t *end) {
     size_t *ends[2] = {start, end}, which;
