@@ -137,6 +137,17 @@ static void carry_a_style(void) {
     expect("what opens both", wrote(opened, buffer, "\x1b[31m\x1b]8;;http://x\x1b\\"));
 }
 
+static void combine_styles(void) {
+    ansi_str_pen bold_red, blue;
+    char buffer[ANSI_STR_LONGEST_START];
+    expect("a style by its codes", ansi_str_pen_after("\x1b[1;31m", 7, &bold_red).status == ANSI_STR_OK);
+    expect("another", ansi_str_pen_after("\x1b[34m", 5, &blue).status == ANSI_STR_OK);
+    ansi_str_style both = ansi_str_style_union(&bold_red.style, &blue.style);
+    expect("what is set in either", wrote(ansi_str_style_start(&both, buffer, sizeof buffer), buffer, "\x1b[1m\x1b[34m"));
+    ansi_str_style left = ansi_str_style_difference(&both, &blue.style);
+    expect("what is set in one alone", wrote(ansi_str_style_start(&left, buffer, sizeof buffer), buffer, "\x1b[1m"));
+}
+
 static void do_edits(void) {
     char buffer[128];
     ansi_str_edit_step edits[3];
@@ -179,6 +190,7 @@ int main(void) {
     give_all_blocks();
     walk_over_blocks();
     carry_a_style();
+    combine_styles();
     do_edits();
     fail();
     take_nothing();

@@ -47,7 +47,7 @@ static void expect_statuses(void) {
     expect("a byte alone", ansi_str_strip(TEXT("\xff"), buffer, 16).status, ANSI_STR_NOT_UTF8);
     expect("no room", ansi_str_strip(TEXT("\x1b[1ma"), buffer, 0).status, ANSI_STR_TOO_SMALL);
     is_refusing = 1;
-    expect("no memory", ansi_str_strip(TEXT("\x1b[1ma"), buffer, 16).status, ANSI_STR_OUT_OF_MEMORY);
+    expect("no memory", ansi_str_strip(TEXT("\x1b[1ma"), buffer, 4).status, ANSI_STR_OUT_OF_MEMORY);
     is_refusing = 0;
 }
 
@@ -101,6 +101,16 @@ static void expect_attributes(void) {
     expect("no attribute", plain.attributes, 0);
     expect("nothing to close", ansi_str_style_has_any(&plain), false);
     expect("an unknown code after a reset", ansi_str_style_has_any(&both), true);
+}
+
+/* A reset and an unknown code are those of the first of two styles. */
+static void expect_marks_of_the_first(void) {
+    const ansi_str_style marked = style_of("\x1b[0;99;1mt"), other = style_of("\x1b[0;99;3mt"), bold = style_of("\x1b[1mt");
+    uint32_t marks = ANSI_STR_RESET | ANSI_STR_UNKNOWN;
+    expect("the first of a union", ansi_str_style_union(&marked, &bold).attributes, marks | ANSI_STR_BOLD);
+    expect("the second of a union", ansi_str_style_union(&bold, &other).attributes, ANSI_STR_BOLD | ANSI_STR_ITALIC);
+    expect("the first of a difference", ansi_str_style_difference(&marked, &other).attributes, marks | ANSI_STR_BOLD);
+    expect("the second of a difference", ansi_str_style_difference(&bold, &marked).attributes, 0);
 }
 
 /* A color is of this kind, with these numbers. */
@@ -268,6 +278,7 @@ int main(void) {
     expect_statuses();
     expect_lengths();
     expect_attributes();
+    expect_marks_of_the_first();
     expect_colors();
     expect_fonts();
     expect_edits();

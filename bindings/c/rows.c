@@ -171,13 +171,13 @@ static ansi_str_replacement *replacements_of(const struct row *r, size_t *count)
     return replacements;
 }
 
-/* The ranges of a row, which follow its codes: two numbers each, with a comma between. */
-static ansi_str_range *ranges_of(const struct row *r, size_t *count) {
-    *count = r->count - 5;
+/* The ranges of a row, from an argument on: two numbers each, with a comma between. */
+static ansi_str_range *ranges_of(const struct row *r, size_t from, size_t *count) {
+    *count = r->count - 4 - from;
     ansi_str_range *ranges = __real_malloc((*count + 1) * sizeof *ranges);
     for (size_t i = 0; i < *count; i++) {
         char *end;
-        ranges[i].start = (size_t)strtoull(argument(r, 1 + i)->bytes, &end, 10);
+        ranges[i].start = (size_t)strtoull(argument(r, from + i)->bytes, &end, 10);
         expect("a range", *end == ',');
         ranges[i].end = (size_t)strtoull(end + 1, NULL, 10);
     }
@@ -251,7 +251,7 @@ static ansi_str_answer call(const struct row *r, char *buffer, size_t len) {
     } else if (strcmp(name, "pen_end") == 0) {
         return ansi_str_pen_end(TEXT(t), buffer, len);
     } else if (strcmp(name, "restyle") == 0) {
-        ansi_str_range *ranges = ranges_of(r, &count);
+        ansi_str_range *ranges = ranges_of(r, 1, &count);
         ansi_str_answer restyled = ansi_str_restyle(TEXT(t), ranges, count, TEXT(argument(r, 0)), buffer, len);
         free(ranges);
         return restyled;
@@ -376,6 +376,24 @@ static int expect_told(const struct row *r) {
     expect("status", answer.status == status_of(r));
     expect("position", answer.len == number(r, 2));
     return 1;
+}
+
+/* The range of a row that is refused, with each allocation refused in turn. */
+static void expect_refused(const struct row *r) {
+    const struct text *t = text_of(r);
+    size_t count;
+    ansi_str_range *ranges = ranges_of(r, 0, &count);
+    ansi_str_answer answer;
+    long requests = 0;
+    for (granted = 0; (answer = ansi_str_refused_range(TEXT(t), ranges, count)).status == ANSI_STR_OUT_OF_MEMORY; granted = ++requests) {
+        expect("length with little memory", answer.len == 0);
+        wanting++;
+    }
+    granted = -1;
+    expect("allocations", (requests > 0) == (count > 0 && answer.status != ANSI_STR_NOT_UTF8));
+    expect("status", answer.status == status_of(r));
+    expect("index", answer.len == number(r, 2));
+    free(ranges);
 }
 
 /* Makes a row for one part or block of a row, for `expect_writes`. */
@@ -839,6 +857,42 @@ static void expect_styled_blocks(const struct row *r) {
     free(blocks);
 }
 
+/* The style that codes select: that of the pen after them. */
+static ansi_str_style selected(const struct text *codes) {
+    size_t len = codes->len + 3;
+    char *sequence = __real_malloc(len + 1);
+    ansi_str_pen pen;
+    snprintf(sequence, len + 1, "\x1b[%sm", codes->bytes);
+    expect("codes", ansi_str_pen_after(sequence, len, &pen).status == ANSI_STR_OK);
+    free(sequence);
+    return pen.style;
+}
+
+/* What sets a style and what closes it, which a row has from an argument on. */
+static void expect_style(const struct row *r, size_t i, const ansi_str_style *style) {
+    expect_sequences(ansi_str_style_start, style, argument(r, i));
+    expect_sequences(ansi_str_style_end, style, argument(r, i + 1));
+}
+
+/* The style that codes select, if they are codes. */
+static void expect_style_of(const struct row *r) {
+    uint32_t status = status_of(r);
+    expect("whether they are codes", ansi_str_mark(NULL, 0, NULL, 0, TEXT(text_of(r)), NULL, 0).status == status);
+    if (status == ANSI_STR_OK) {
+        ansi_str_style style = selected(text_of(r));
+        expect_style(r, 0, &style);
+    }
+}
+
+/* What a call returns for two styles, which a row has by their codes. */
+static void expect_combined(const struct row *r, ansi_str_style (*combine)(const ansi_str_style *, const ansi_str_style *)) {
+    const ansi_str_style first = selected(text_of(r)), second = selected(argument(r, 0));
+    granted = 0;
+    const ansi_str_style style = combine(&first, &second);
+    granted = -1;
+    expect_style(r, 1, &style);
+}
+
 /* What no row has: bytes that aren't UTF-8 for a call on columns, a number without a meaning, and no text, tail or buffer. */
 static void expect_failures(void) {
     char buffer[] = "as it is";
@@ -856,6 +910,7 @@ static void expect_failures(void) {
                                        ansi_str_link_at("\xff", 1, 0, buffer, 8),
                                        ansi_str_find_from("\xff", 1, 0, "a", 1),
                                        ansi_str_restyle("\xff", 1, NULL, 0, "m", 1, buffer, 8),
+                                       ansi_str_refused_range("\xff", 1, NULL, 0),
                                        ansi_str_mark("a", 1, "a", 1, "\xff", 1, buffer, 8),
                                        ansi_str_remove("\xff", 1, 1, 0, buffer, 8),
                                        ansi_str_replace("\xff", 1, 1, 0, "a", 1, buffer, 8),
@@ -919,6 +974,7 @@ static void expect_failures(void) {
     expect("nothing", ansi_str_link_at(NULL, 0, 0, NULL, 0).status == ANSI_STR_NO);
     expect("nothing", ansi_str_find_from(NULL, 0, 0, NULL, 0).status == ANSI_STR_OK);
     expect("nothing", ansi_str_restyle(NULL, 0, NULL, 0, NULL, 0, NULL, 0).status == ANSI_STR_OK);
+    expect("nothing", ansi_str_refused_range(NULL, 0, NULL, 0).status == ANSI_STR_NO);
     expect("nothing", ansi_str_mark(NULL, 0, NULL, 0, NULL, 0, NULL, 0).status == ANSI_STR_OK);
     expect("nothing", ansi_str_remove(NULL, 0, 0, 0, NULL, 0).status == ANSI_STR_OK);
     expect("nothing", ansi_str_replace(NULL, 0, 0, 0, NULL, 0, NULL, 0).status == ANSI_STR_OK);
@@ -1006,10 +1062,18 @@ static void expect_row(const struct row *r) {
         expect_lines(r);
     } else if (strcmp(name, "matches") == 0) {
         expect_matches(r);
+    } else if (strcmp(name, "refused_range") == 0) {
+        expect_refused(r);
     } else if (strcmp(name, "links") == 0) {
         expect_links(r);
     } else if (strcmp(name, "pen_after") == 0) {
         expect_pen(r);
+    } else if (strcmp(name, "style_of") == 0) {
+        expect_style_of(r);
+    } else if (strcmp(name, "union") == 0) {
+        expect_combined(r, ansi_str_style_union);
+    } else if (strcmp(name, "difference") == 0) {
+        expect_combined(r, ansi_str_style_difference);
     } else if (strcmp(name, "blocks") == 0) {
         expect_blocks(r);
     } else if (strcmp(name, "styled_blocks") == 0) {

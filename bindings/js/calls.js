@@ -58,6 +58,14 @@ const raw = {
     }, written);
   },
 
+  /** The index of the first range that `restyle` and `replaceEach` refuse, or null if they refuse none. */
+  refusedRange(text, positions) {
+    return called([text, rangesAsBytes(positions)], [], noRoom, (exports, frame) => {
+      const [ranges, bytes] = frame.texts[1];
+      return exports.ansi_str_raw_refused_range(...frame.head, ...frame.texts[0], ranges, bytes / BigInt(RANGE));
+    }, told);
+  },
+
   mark(text, pattern, codes) {
     return called([text, pattern, codes], [], roomForOne,
       (exports, frame) => exports.ansi_str_raw_mark(...frame.head, ...frame.texts[0], ...frame.texts[1], ...frame.texts[2], ...frame.out), written);
@@ -516,9 +524,10 @@ function positionsOf(ranges) {
 
 /** What is made of a text and positions in bytes; it is refused only for the ranges. */
 function madeInRanges(text, positions, make) {
-  const made = make(isAscii(text) ? positions : positions.map(placesIn(raw.strip(text))));
+  const places = isAscii(text) ? positions : positions.map(placesIn(raw.strip(text)));
+  const made = make(places);
   if (made === null) {
-    pairsOf(positions).forEach(([start, end]) => checkRange(strip(text), start, end));
+    checkRange(strip(text), ...pairsOf(positions)[raw.refusedRange(text, places)]);
   }
   return made;
 }
@@ -643,6 +652,22 @@ export function penAfter(text) {
   const sequences = remove(text, 0, strip(text).length);
   const [{ style, link }] = blocks(sequences + CELL);
   return { style, link, start: raw.penStart(text), end: raw.penEnd(text) };
+}
+
+export function styleOf(style) {
+  return blocks(`\x1b[${codesOf(style)}m${CELL}`)[0].style;
+}
+
+export function union(first, second) {
+  // (the codes of a style only set)
+  return styleOf([first, second].map((style) => codesOf(styleOf(style))).filter((codes) => codes !== '').join(';'));
+}
+
+export function difference(first, second) {
+  const [mine, others] = [styleOf(first), styleOf(second)];
+  const same = ['foreground', 'background', 'underlineColor', 'font'].filter((part) => JSON.stringify(mine[part]) === JSON.stringify(others[part]));
+  const attributes = mine.attributes.filter((name) => !others.attributes.includes(name));
+  return styleOf({ ...mine, ...Object.fromEntries(same.map((part) => [part, null])), attributes });
 }
 
 export function width(text) {

@@ -237,6 +237,15 @@ export interface Pen {
  */
 export function penAfter(text: string): Pen;
 
+/** The style that codes or names select. Throws a RangeError if the codes have anything but digits, `;` and `:`. */
+export function styleOf(style: Change): Style;
+
+/** What is set in either of two styles. A color or a font of the second is taken before that of the first. */
+export function union(first: Change, second: Change): Style;
+
+/** What is set in the first of two styles and isn't set so in the second: no attribute, color or font that both have. */
+export function difference(first: Change, second: Change): Style;
+
 /** The display width of the text in columns: the sum over the extended grapheme clusters of what a terminal shows. */
 export function width(text: string): number;
 
@@ -311,8 +320,8 @@ export function wrap(text: string, width: number): string[];
 export function wrap(text: string, width: number, options: { firstIndent?: string; indent?: string }): string[];
 
 /**
- * Where each line that `wrap` returns begins and ends in the plain text, if `wrap` leaves nothing out and the text has no TAB.
- * Otherwise a control has one column. The text can be cut there.
+ * Where each line of the text begins and ends in the plain text, if it is wrapped to `width` columns of what is shown. A TAB is a blank, and
+ * other controls have no column; those at the end of a line are left out. The text can be cut there.
  */
 export function lines(text: string, width: number): [number, number][];
 

@@ -1,7 +1,7 @@
 // Makes the calls of the rows of texts and results, which rows/README.md describes, in Node and in a page.
 
 /** The calls that aren't here. The positions of an edit count the bytes of what the edit before it made. */
-const LACKING = ['is_char_boundary', 'part_interval', 'edit', 'block_order', 'items'];
+const LACKING = ['is_char_boundary', 'part_interval', 'edit', 'block_order', 'items', 'refused_range'];
 /** How many arguments of a call are positions. */
 const POSITIONS = { cut: 2, left: 1, right: 1, split_at: 1, floor_char_boundary: 1, link_at: 1, column_of: 1, find_from: 1, remove: 2,
   replace: 2, insert: 1, link: 2 };
@@ -208,6 +208,15 @@ function answersOf(ansi, call, found, want, text, more) {
     case 'pen_after': {
       const { link, start, end } = ansi.penAfter(text);
       return [[[start, link ?? '', end], more]];
+    }
+    case 'style_of': {
+      const style = orNull(() => ansi.styleOf(text));
+      return [[style && [style.start, style.end], found && more]];
+    }
+    case 'union':
+    case 'difference': {
+      const { start, end } = ansi[call](text, first);
+      return [[[start, end], more.slice(1)]];
     }
     default:
       throw new Error(`no call of a row: ${call}`);

@@ -9,8 +9,8 @@ import { test } from 'node:test';
 import { setFlagsFromString } from 'node:v8';
 import { runInNewContext } from 'node:vm';
 import {
-  OutOfMemoryError, blocks, columnOf, cut, edit, endsWith, expandTabs, find, findFrom, fit, fitting, floorCharBoundary, hasAny, isSafe, isWhole, iterBlocks, iterLines, iterSplit, lines, linkAt,
-  insert, link, links, mark, matches, pad, part, penAfter, remove, replace, replaceAll, replaceEach, restyle, sanitize, sliceColumns, split, splitAt, startsWith, strip, stripPrefix, stripSuffix, trim, truncate, unlink, width, wrap,
+  OutOfMemoryError, blocks, columnOf, cut, difference, edit, endsWith, expandTabs, find, findFrom, fit, fitting, floorCharBoundary, hasAny, isSafe, isWhole, iterBlocks, iterLines, iterSplit, lines, linkAt,
+  insert, link, links, mark, matches, pad, part, penAfter, remove, replace, replaceAll, replaceEach, restyle, sanitize, sliceColumns, split, splitAt, startsWith, strip, stripPrefix, stripSuffix, styleOf, trim, truncate, union, unlink, width, wrap,
 } from './index.js';
 import * as ansiStr from './index.js';
 import { called, written } from './memory.js';
@@ -101,6 +101,7 @@ test('ranges count UTF-16 units, and a bad one is refused', () => {
     const text = `\x1b[3m${plain}`;
     for (const end of [4, 2 ** 32, Number.MAX_SAFE_INTEGER]) {
       assert.throws(() => restyle(text, [[0, 2], [3, end]], '1'), refused(`the end, ${end}, is past the end of the plain text, 3`));
+      assert.throws(() => restyle(text, [[0, 4], [4, end]], '1'), refused('the end, 4, is past the end of the plain text, 3'));
       assert.throws(() => remove(text, 0, end), refused(`the end, ${end}, is past the end of the plain text, 3`));
     }
     assert.throws(() => restyle(text, [[0, 2], [1, 3]], '1'), refused('a range begins before the one before it ends: 1 is below 2'));
@@ -162,6 +163,22 @@ test('a replacement, an added text and a link count UTF-16 units, and a bad rang
     assert.throws(() => link('\x1b[1m😀', ...range, 'x'), refused('the position 1 is inside a character'));
   }
   assert.throws(() => insert('\x1b[1m😀', 1, 'x'), refused('the position 1 is inside a character'));
+});
+
+test('a style by its codes or names, and what is set in two', () => {
+  assert.deepEqual(styleOf('3;1;34;58;2;1;2;3;12'), blocks('\x1b[3;1;34;58;2;1;2;3;12mx')[0].style);
+  assert.deepEqual(union({ bold: true }, '4:3;3'), styleOf('1;3'));
+  assert.deepEqual(difference(styleOf('1;91'), { foreground: 'brightRed' }), styleOf('1'));
+  const styles = ['', '1', '2;31', '1;32;12', '38;5;1;13', '38;2;0;0;1;48;5;2', '58;5;3;2;48;5;2'].map(styleOf);
+  for (const style of styles) {
+    assert.deepEqual([union(style, style), difference(style, style)], [style, styleOf('')]);
+    for (const other of styles) {
+      const both = union(style, other);
+      assert.deepEqual([difference(other, both), union(difference(both, other), other)], [styleOf(''), both]);
+    }
+  }
+  assert.throws(() => styleOf('1m'), { name: 'RangeError', message: 'the style must have only digits, ";" and ":": 1m' });
+  assert.throws(() => union('1', 1), /a string or an object/);
 });
 
 test('a style is codes or names', () => {
@@ -233,8 +250,11 @@ test('a position past the end is the end, and an end below its start is refused,
   }
 });
 
+// the calls whose first argument is a text
+const OF_TEXTS = Object.values(ansiStr).filter((call) => ![OutOfMemoryError, styleOf, union, difference].includes(call));
+
 test('what is no text or no position is refused', () => {
-  const calls = [...Object.values(ansiStr).filter((call) => call !== OutOfMemoryError), (text) => find('', text), (text) => split('', text),
+  const calls = [...OF_TEXTS, (text) => find('', text), (text) => split('', text),
     (text) => edit('', [['suffix', text]]), (text) => truncate('', 1, text), (text) => truncate('', 1, { tail: text }), (text) => fit('', 1, 'left', text),
     ...[stripPrefix, stripSuffix, startsWith, endsWith, part, iterSplit].map((call) => (text) => call('', text))];
   for (const call of calls) {
@@ -329,7 +349,7 @@ test('bytes are made safe', () => {
     assert.throws(() => sanitize(wrong), /the text must be a string/);
   }
   assert.throws(() => sanitize('a\ud800'), /lone surrogate/);
-  for (const call of Object.values(ansiStr).filter((call) => call !== OutOfMemoryError && call !== sanitize)) {
+  for (const call of OF_TEXTS.filter((call) => call !== sanitize)) {
     assert.throws(() => call(every), /must be a string/);
   }
 });

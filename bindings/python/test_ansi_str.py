@@ -23,7 +23,7 @@ from ansi_str import compat
 ROWS = os.path.join(os.path.dirname(os.path.abspath(__file__)), "../../crates/ansi_rows/stdin")
 # the calls that aren't here. The positions of an edit count the bytes of what the edit before it made
 LACKING = [
-    "is_char_boundary", "floor_char_boundary", "part_interval", "edit", "block_order", "items",
+    "is_char_boundary", "floor_char_boundary", "part_interval", "edit", "block_order", "items", "refused_range",
 ]
 # how many arguments of a call are positions
 POSITIONS = {"cut": 2, "left": 1, "right": 1, "split_at": 1, "link_at": 1, "column_of": 1, "find_from": 1, "remove": 2,
@@ -122,6 +122,9 @@ MADE = {
     "links": lambda text, *_: [[(link.start, link.end, link.address) for link in ansi_str.links(text)]],
     "is_safe": lambda text, links: [ansi_str.is_safe(text, links=links == "Keep")],
     "pen_after": lambda text, *_: [[pen.start, pen.link or "", pen.end] for pen in [ansi_str.pen_after(text)]],
+    "style_of": lambda codes, *_: [or_none(lambda: list(ansi_str.Style.of(codes)[4:6]))],
+    "union": lambda first, second, *_: [list(ansi_str.Style.of(first).union(ansi_str.Style.of(second))[4:6])],
+    "difference": lambda first, second, *_: [list(ansi_str.Style.of(first).difference(ansi_str.Style.of(second))[4:6])],
 }
 
 
@@ -165,6 +168,10 @@ def said(call, status, want, text, more):
         return more[1:]
     if call == "pen_after":
         return more
+    if call == "style_of":
+        return want and more
+    if call in ("union", "difference"):
+        return more[1:]
     if call == "wrap_with":
         return more[3:]
     if call in ("lines", "matches"):
@@ -382,6 +389,23 @@ class Arguments(unittest.TestCase):
         self.refused(ValueError, "background is below 0: -1", lambda: ansi_str.codes(background=(0, -1, 0)))
         self.refused(ValueError, "background must have three numbers, not 2", lambda: ansi_str.codes(background=(0, 0)))
         self.refused(TypeError, "underline_color must be an int, not float", lambda: ansi_str.codes(underline_color=1.0))
+
+    def test_styles_by_codes_and_of_two(self):
+        of = ansi_str.Style.of
+        self.assertEqual(of("3;1;34;58;2;1;2;3;12"), style_after("3;1;34;58;2;1;2;3;12"))
+        self.assertEqual(of(style_after(1)._replace(foreground="bright_red")), style_after("1;91"))
+        self.assertEqual(of(ansi_str.codes(bold=True)).union(of("4:3;3")), of("1;3"))
+        # (a color may be named in several ways)
+        self.assertEqual(of("1;91").difference(of("")._replace(foreground="bright_red")), of("1"))
+        self.assertEqual(of("").union(of("")), style_after(""))
+        styles = [of(codes) for codes in ("", "1", "2;31", "1;32;12", "38;5;1;13", "38;2;0;0;1;48;5;2", "58;5;3;2;48;5;2")]
+        for style in styles:
+            self.assertEqual([style.union(style), style.difference(style)], [style, of("")])
+            for other in styles:
+                both = style.union(other)
+                self.assertEqual([other.difference(both), both.difference(other).union(other)], [of(""), both])
+        self.refused(ValueError, "style must have only digits", lambda: of("1m"))
+        self.refused(TypeError, "style must be a str, not int", lambda: of(1))
 
     def test_a_style_is_codes(self):
         style = style_after("3;1m\x1b[34;58;2;1;2;3m\x1b[12;45")

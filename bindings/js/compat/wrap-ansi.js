@@ -30,7 +30,9 @@ function breaksOf(word, used, columns) {
   if (first === word.length) {
     return [];
   }
-  const starts = lines(word.slice(first), columns).map(([start]) => first + start);
+  // A TAB in a word is no place to break.
+  const rest = word.slice(first).replaceAll('\t', '_');
+  const starts = lines(rest, columns).map(([start]) => first + start);
   return used > 0 ? starts : starts.slice(1);
 }
 

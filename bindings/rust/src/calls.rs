@@ -294,6 +294,7 @@ extern "C" {
         ranges: *mut RawRange,
         most: usize,
     ) -> Answers;
+    fn ansi_str_raw_refused_range(t: Bytes, n: usize, ranges: *const RawRange, k: usize) -> Answer;
     fn ansi_str_raw_restyle(
         t: Bytes,
         n: usize,
@@ -507,6 +508,8 @@ extern "C" {
     fn ansi_str_raw_pen_end(t: Bytes, n: usize, b: Room, m: usize) -> Answer;
     fn ansi_str_raw_style_start(style: *const RawStyle, b: Room, m: usize) -> Answer;
     fn ansi_str_raw_style_end(style: *const RawStyle, b: Room, m: usize) -> Answer;
+    fn ansi_str_raw_style_union(first: *const RawStyle, second: *const RawStyle) -> RawStyle;
+    fn ansi_str_raw_style_difference(first: *const RawStyle, second: *const RawStyle) -> RawStyle;
 }
 
 /// A call is refused: a position is inside a character, or the end of a range is below its start.
@@ -736,13 +739,27 @@ pub(crate) fn matches(text: &str, pat: &str) -> Vec<RawRange> {
     }
 }
 
-/// The text with codes applied in ranges, or `None` if one of them is refused.
-pub(crate) fn restyle(text: &str, ranges: &[Range<usize>], codes: &str) -> Option<String> {
+/// Ranges, as the exports take them.
+fn raw_ranges(ranges: &[Range<usize>]) -> Vec<RawRange> {
     let raw_of = |range: &Range<usize>| RawRange {
         start: range.start,
         end: range.end,
     };
-    let raw: Vec<RawRange> = ranges.iter().map(raw_of).collect();
+    ranges.iter().map(raw_of).collect()
+}
+
+/// The index of the first range that is refused.
+pub(crate) fn refused_range(text: &str, ranges: &[Range<usize>]) -> Option<usize> {
+    let raw = raw_ranges(ranges);
+    let (t, n) = (text.as_ptr(), text.len());
+    // SAFETY: a `str`, and a vector's ranges; any numbers may be a range
+    let answer = unsafe { ansi_str_raw_refused_range(t, n, raw.as_ptr(), raw.len()) };
+    outcome(answer.status, answer.len).ok()
+}
+
+/// The text with codes applied in ranges, or `None` if one of them is refused.
+pub(crate) fn restyle(text: &str, ranges: &[Range<usize>], codes: &str) -> Option<String> {
+    let raw = raw_ranges(ranges);
     let (t, n, c, j) = (text.as_ptr(), text.len(), codes.as_ptr(), codes.len());
     // (what a range writes is most often shorter than this)
     written(n + 48 * raw.len(), |b, m| {
@@ -1235,6 +1252,18 @@ impl RawStyle {
     /// The sequences that close the style.
     pub(crate) fn end(&self) -> String {
         self.sequences(ansi_str_raw_style_end)
+    }
+
+    /// What is set in either of two styles.
+    pub(crate) fn union(&self, other: &RawStyle) -> RawStyle {
+        // SAFETY: two styles that the library has made
+        unsafe { ansi_str_raw_style_union(self, other) }
+    }
+
+    /// What is set in this style and isn't set so in the other.
+    pub(crate) fn difference(&self, other: &RawStyle) -> RawStyle {
+        // SAFETY: two styles that the library has made
+        unsafe { ansi_str_raw_style_difference(self, other) }
     }
 
     /// What an export writes of the style: nothing if nothing is set.

@@ -317,8 +317,8 @@ pub trait AnsiColumns: AnsiStr {
     #[must_use]
     fn ansi_wrap_with(&self, to: &Wrap<'_>) -> AnsiWrap;
 
-    /// Where each line of [`ansi_wrap`](AnsiColumns::ansi_wrap) begins and ends in the plain text, if that call leaves nothing out
-    /// and the text has no TAB. Otherwise a control has one column. The text can be cut there.
+    /// Where each line of [`ansi_wrap`](AnsiColumns::ansi_wrap) begins and ends in the plain text. A TAB is a blank, and other
+    /// controls have no column; those at the end of a line are left out. The text can be cut there.
     ///
     /// ```
     /// use ansi_str::columns::AnsiColumns;

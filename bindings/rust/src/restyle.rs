@@ -40,7 +40,7 @@ pub trait AnsiRestyle: AnsiStr {
     /// sequence stay. The result is borrowed if each range is empty.
     ///
     /// It is `None` if the codes have a byte other than a digit, `:` and `;`; or if a range begins before the one before it ends,
-    /// ends before it begins or past the end of the plain text, or begins or ends inside a character.
+    /// ends before it begins or past the end of the plain text, or begins or ends inside a character. [`refused_range`] says which.
     ///
     /// ```
     /// use ansi_str::restyle::AnsiRestyle;
@@ -191,6 +191,20 @@ pub trait AnsiRestyle: AnsiStr {
     /// ```
     #[must_use]
     fn ansi_unlink(&self) -> Cow<'_, str>;
+}
+
+/// The index of the first range that [`AnsiRestyle::ansi_restyle`] and [`AnsiRestyle::ansi_replace_each`] refuse, or `None` if they
+/// refuse none.
+///
+/// ```
+/// use ansi_str::restyle::refused_range;
+/// assert_eq!(refused_range("\x1b[31mred", &[0..1, 1..3]), None);
+/// assert_eq!(refused_range("\x1b[31mred", &[0..2, 1..3]), Some(1));
+/// assert_eq!(refused_range("\x1b[31mred", &[0..4, 5..6]), Some(0));
+/// ```
+#[must_use]
+pub fn refused_range(text: &str, ranges: &[Range<usize>]) -> Option<usize> {
+    calls::refused_range(text, ranges)
 }
 
 /// A link of a text; [`AnsiRestyle::ansi_links`] gives it.

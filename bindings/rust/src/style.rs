@@ -1,6 +1,6 @@
 //! The style of a block, and its colors.
 
-use crate::calls::RawStyle;
+use crate::calls::{self, RawStyle};
 use std::fmt::{self, Debug, Display, Formatter};
 
 /// A color by its name, by its number among 256, or by its red, green and blue.
@@ -76,6 +76,50 @@ impl Style {
 
     pub(crate) fn has_any(&self) -> bool {
         self.0.has_any()
+    }
+
+    /// The style that SGR codes such as `1;31` select, or `None` if they have anything but digits, `;` and `:`. The Rust crate
+    /// lacks this, [`union`](Style::union) and [`difference`](Style::difference).
+    ///
+    /// ```
+    /// use ansi_str::{Color, Style};
+    /// let style = Style::of("1;31").unwrap();
+    /// assert!(style.is_bold() && style.foreground() == Some(Color::Red));
+    /// assert_eq!(Style::of("bold"), None);
+    /// ```
+    #[must_use]
+    pub fn of(codes: &str) -> Option<Style> {
+        let is_code = |byte: u8| byte.is_ascii_digit() || byte == b';' || byte == b':';
+        codes
+            .bytes()
+            .all(is_code)
+            .then(|| calls::pen_after(&format!("\x1b[{codes}m")).0)
+    }
+
+    /// What is set in either of two styles. A color or a font of `other` is taken before that of this style, and the marks of a
+    /// reset and of an unknown code are those of this style.
+    ///
+    /// ```
+    /// use ansi_str::Style;
+    /// let (bold_red, blue) = (Style::of("1;31").unwrap(), Style::of("34").unwrap());
+    /// assert_eq!(bold_red.union(&blue).codes(), "1;34");
+    /// ```
+    #[must_use]
+    pub fn union(&self, other: &Style) -> Style {
+        Style(self.0.union(&other.0))
+    }
+
+    /// What is set in this style and isn't set so in the other: no attribute, color or font that both have. The marks of a reset
+    /// and of an unknown code are those of this style.
+    ///
+    /// ```
+    /// use ansi_str::Style;
+    /// let (bold_red, red) = (Style::of("1;31").unwrap(), Style::of("31").unwrap());
+    /// assert_eq!(bold_red.difference(&red).codes(), "1");
+    /// ```
+    #[must_use]
+    pub fn difference(&self, other: &Style) -> Style {
+        Style(self.0.difference(&other.0))
     }
 
     /// Prints the sequences that set the style.

@@ -1,9 +1,11 @@
 //! Passes the rows of texts and results, which `rows/README.md` describes.
 
 use ansi_str::columns::{edit_columns, Alignment, AnsiColumns, ColumnEdit, Side, Truncation, Wrap};
-use ansi_str::restyle::{AnsiLink, AnsiRestyle, Replacement};
+use ansi_str::restyle::{refused_range, AnsiLink, AnsiRestyle, Replacement};
 use ansi_str::safe::{sanitize_bytes, AnsiSafe, Links, Policy, Rest};
-use ansi_str::{edit, get_blocks, is_whole, part, pen_after, AnsiBlock, AnsiStr, Color, Edit};
+use ansi_str::{
+    edit, get_blocks, is_whole, part, pen_after, AnsiBlock, AnsiStr, Color, Edit, Style,
+};
 use std::borrow::Cow;
 use std::cmp::Ordering;
 use std::collections::BTreeMap;
@@ -316,6 +318,10 @@ fn pass(call: &str, status: &str, want: &str, text: &str, more: &[String]) -> Op
             let ranges: Vec<_> = more[1..].iter().map(range_of).collect();
             is(text.ansi_restyle(&ranges, &more[0]))
         }
+        "refused_range" => {
+            let ranges: Vec<_> = more.iter().map(range_of).collect();
+            refused_range(text, &ranges) == answer.map(number)
+        }
         "mark" => is(text.ansi_mark(&more[0], &more[1])),
         "remove" => is(text.ansi_remove(position(0)..position(1))),
         "replace" => is(text.ansi_replace(position(0)..position(1), &more[2])),
@@ -343,9 +349,23 @@ fn pass(call: &str, status: &str, want: &str, text: &str, more: &[String]) -> Op
             let pen = pen_after(text);
             more == [pen.start(), pen.link().unwrap_or(""), pen.end()]
         }
+        "style_of" => is_style(Style::of(text), more),
+        "union" => is_style(combined(Style::union, text, &more[0]), &more[1..]),
+        "difference" => is_style(combined(Style::difference, text, &more[0]), &more[1..]),
         _ if LACKING.contains(&call) => return None,
         _ => panic!("no call of a row: {call}"),
     })
+}
+
+/// What a call makes of two styles by their codes.
+fn combined(combine: fn(&Style, &Style) -> Style, first: &str, second: &str) -> Option<Style> {
+    Some(combine(&Style::of(first)?, &Style::of(second)?))
+}
+
+/// Whether a row has what sets a style and what closes it. If there is no style, it has nothing.
+fn is_style(style: Option<Style>, row: &[String]) -> bool {
+    let sequences = style.map(|style| vec![style.start().to_string(), style.end().to_string()]);
+    sequences.unwrap_or_default() == row
 }
 
 /// Makes the call of a row whose text is any bytes. `None` if the row is of another call, and else whether it returns what

@@ -62,6 +62,17 @@ fn a_reset_counts() {
 }
 
 #[test]
+fn marks_are_those_of_the_first() {
+    let [marked, other] = ["0;99;1", "0;99;3"].map(|codes| Style::of(codes).unwrap());
+    let [bold, plain] = ["\x1b[1m", ""].map(style_after);
+    assert_eq!(marked, style_after("\x1b[0;99;1m"));
+    assert_eq!(marked.union(&bold), marked);
+    assert_eq!(bold.union(&other), style_after("\x1b[1;3m"));
+    assert_eq!(marked.difference(&other), marked);
+    assert_eq!(bold.difference(&marked), plain);
+}
+
+#[test]
 fn a_style_tells_its_codes() {
     let style = style_after("\x1b[3;1m\x1b[34;58;2;1;2;3m\x1b[12;45m");
     assert_eq!(style.codes(), "1;3;12;34;45;58;2;1;2;3");

@@ -1,6 +1,6 @@
 //! The blocks of a text: its runs of one style.
 ghost use Rattle.std.specs.Prelude.{◌≡◌, ◌++◌, ◌≤◌, IsTrue, IsFalse, IsNone, IsOk, IfOk, ◌==◌};
-ghost use Rattle.std.specs.Prelude.{length};
+ghost use Rattle.std.specs.Prelude.{length, IfSome, string_bytes};
 ghost use Rattle.std.specs.List.{list_all};
 ghost use Rattle.std.specs.Cow.{cow_str_bytes};
 ghost use Rattle.ansi_items.specs.Plain.{has_escape};
@@ -230,7 +230,8 @@ fn block_text<'a, A: Allocator>(
     text: &str,
     run: &Run<'a>,
 ) -> Result<CowStr<'a, A>, AllocError>
-    requires { run.now.len_before ≡ length (sequences_before text.now 0) }
+    requires len { run.now.len_before ≡ length (sequences_before text.now 0) }
+    requires together { IfSome run.now.together (λ s. s.now ≡ sequences_before text.now 0) }
     ensures bytes { IfOk result (λ c.
         cow_str_bytes c ≡ sequences_before text.now 0 ++ run.now.text.now) }
     ensures borrowed { IfOk result (λ c.
@@ -241,7 +242,26 @@ fn block_text<'a, A: Allocator>(
         return Ok(CowStr::Borrowed(run.text));
     }
     let room = run.len_before.saturating_add(run.text.len());
-    let mut joined = sequences_before(alloc, text, room)?;
+    let mut joined = waiting_sequences(alloc, text, run, room)?;
     joined.push_str(run.text)?;
     Ok(CowStr::Owned(joined))
+}
+
+/// The sequences that wait for the first run of a text, joined. Reserves `room` bytes at once.
+#[inline(always)]
+fn waiting_sequences<A: Allocator>(
+    alloc: A,
+    text: &str,
+    run: &Run<'_>,
+    room: usize,
+) -> Result<String<A>, AllocError>
+    requires { IfSome run.now.together (λ s. s.now ≡ sequences_before text.now 0) }
+    ensures { IfOk result (λ s. string_bytes s ≡ sequences_before text.now 0) }
+{
+    let Some(sequences) = run.together else {
+        return sequences_before(alloc, text, room);
+    };
+    let mut joined = String::with_capacity(alloc, room)?;
+    joined.push_str(sequences)?;
+    Ok(joined)
 }

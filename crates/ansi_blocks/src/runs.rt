@@ -15,6 +15,8 @@ pub struct Run<'a> {
     pub text: &'a str,
     /// How many bytes the sequences that wait for it have.
     pub len_before: usize,
+    /// These sequences, joined, if they are a stretch of the text: no SGR follows one of them.
+    pub together: Option<&'a str>,
     /// The text after it.
     pub rest: &'a str,
 }
@@ -29,19 +31,28 @@ pub fn first_styled_run<'a>(text: &'a str, style: &mut Style) -> Option<Run<'a>>
         ∷ blocks_from (rendition_of style.new) run.rest.now) }
     ensures awaited { IfSome result (λ run.
         run.len_before ≡ length (sequences_before text.now 0)) }
+    ensures together { IfSome result (λ run.
+        IfSome run.together (λ s. s.now ≡ sequences_before text.now 0)) }
 {
     let mut len_before = 0;
+    // the end of the last SGR
+    let mut start = 0;
     for item in Scanner::new(text) {
         let piece = &text[item.start..item.end];
         match item.kind {
             Kind::Text => {
+                let before = &text[start..item.start];
                 return Some(Run {
                     text: piece,
                     len_before,
+                    together: (before.len() == len_before).then_some(before),
                     rest: &text[item.end..],
                 });
             }
-            Kind::Sgr => styles::apply(style, piece),
+            Kind::Sgr => {
+                styles::apply(style, piece);
+                start = item.end;
+            }
             Kind::Other | Kind::Lone => len_before += piece.len(),
         }
     }

@@ -10,7 +10,7 @@ use Rattle.ansi_columns.specs.Addresses.{address_at}
 use Rattle.ansi_columns.specs.Columns.{columns, column_of, ShowsUpTo}
 use Rattle.ansi_items.specs.Plain.{plain, has_escape}
 use Rattle.ansi_columns.specs.Fitted.{fitted}
-use Rattle.ansi_columns.specs.Lines.{lines}
+use Rattle.ansi_columns.specs.Lines.{shown_lines}
 use Rattle.ansi_columns.specs.LineWalks.{lines_of_walk, IsLineWalk}
 use Rattle.ansi_columns.specs.declared.line_walks.LineWalk.{LineWalk}
 use Rattle.ansi_columns.specs.Shown.{truncated, truncated_ending, padded, missing, closing, closed_cell}
@@ -142,9 +142,9 @@ WrapsWith t width first later answer old new old_ends new_ends =
 abbrev pub line_entry : ℕ × ℕ → LineEntry
 line_entry line = record { start = line.0; end = line.1 }
 
--- the same of each line of the text t wrapped at a width, in bytes of the plain text
+-- the same of each line of what is shown of the text t, wrapped at a width, in bytes of the plain text
 abbrev pub line_entries : List ℕ → ℕ → List LineEntry
-line_entries t width = map line_entry (lines width (plain t))
+line_entries t width = map line_entry (shown_lines width (plain t))
 
 -- `lines` writes these, and no texts; it doesn't allocate
 abbrev pub WritesLines : List ℕ → ℕ → ListAnswer → List LineEntry → List LineEntry → Type 0
@@ -153,7 +153,7 @@ WritesLines t width answer old new = OnUtf8 (t ∷ []) (AreWritten [] (line_entr
 -- `lines_begin` sets a walk to the first of these lines
 abbrev pub BeginsLines : List ℕ → ℕ → Answer → LineWalk → LineWalk → Type 0
 BeginsLines t width answer old new =
-    OnUtf8 (t ∷ []) ((answer ≡ done 0) × IsLineWalk new × (lines_of_walk new ≡ lines width (plain t))) ((answer ≡ failed not_utf8) × (new ≡ old))
+    OnUtf8 (t ∷ []) ((answer ≡ done 0) × IsLineWalk new × (lines_of_walk new ≡ shown_lines width (plain t))) ((answer ≡ failed not_utf8) × (new ≡ old))
 
 -- `lines_next` takes the first line off the walk; if there is no line, none is left, and the entry is unchanged
 abbrev pub GivesNextLine : LineWalk → LineWalk → LineEntry → LineEntry → Answer → Type 0

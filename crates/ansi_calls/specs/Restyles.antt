@@ -1,5 +1,5 @@
 -- What each call on matches and on ranges does. A text that isn't UTF-8 makes it fail with the status `not_utf8`, and what it writes to is unchanged.
-use Rattle.std.specs.Prelude.{◌≡◌, ℕ, not, ◌&&◌, ◌==◌, List, [], ◌∷◌, length, map, Option, None, Some, if◌then◌else◌}
+use Rattle.std.specs.Prelude.{◌≡◌, ◌⊎◌, ℕ, ◌+◌, ◌<◌, not, ◌&&◌, ◌==◌, IsTrue, IsFalse, List, [], ◌∷◌, length, map, take, Option, None, Some, if◌then◌else◌}
 use Rattle.std.specs.Option.{option_map_or}
 use Rattle.ansi_items.specs.Plain.{plain}
 use Rattle.ansi_search.specs.Matches.{first_match_from}
@@ -14,7 +14,7 @@ use Rattle.ansi_restyle.specs.Restyled.{is_change, restyled}
 use Rattle.ansi_calls.specs.declared.answers.Answer.{Answer}
 use Rattle.ansi_calls.specs.declared.lists.ListAnswer.{ListAnswer}
 use Rattle.ansi_calls.specs.declared.restyles.RangeEntry.{RangeEntry}
-use Rattle.ansi_calls.specs.Answers.{no, refused, not_utf8, done, failed, OnUtf8, HasFailed, Gives}
+use Rattle.ansi_calls.specs.Answers.{no, refused, not_utf8, out_of_memory, done, failed, OnUtf8, HasFailed, Gives}
 use Rattle.ansi_calls.specs.Lists.{AreWritten, HaveFailed}
 
 -- `find_from` returns the position of the first match of p in the plain text that doesn't begin before a position
@@ -48,6 +48,20 @@ GivesRestyled t rs codes answer old new = Gives refused (not (length rs == 0)) (
 -- `restyle` does so
 abbrev pub Restyles : List ℕ → List RangeEntry → List ℕ → Answer → List ℕ → List ℕ → Type 0
 Restyles t entries codes answer old new = OnUtf8 (t ∷ codes ∷ []) (GivesRestyled t (ranges_of entries) codes answer old new) (HasFailed not_utf8 answer old new)
+
+-- a call returns the index of the first of the ranges that isn't in turn in x, or that all are
+abbrev pub TellsRefused : List ℕ → List (ℕ × ℕ) → Answer → Type 0
+TellsRefused x rs answer =
+    ((answer ≡ failed no) × IsTrue (are_in_turn x 0 rs))
+    ⊎ ((n : ℕ) × (answer ≡ done n) × (n < length rs) × IsTrue (are_in_turn x 0 (take n rs)) × IsFalse (are_in_turn x 0 (take (n + 1) rs)))
+
+-- the same, or the call runs out of memory; it allocates only if there is a range
+abbrev pub GivesRefused : List ℕ → List (ℕ × ℕ) → Answer → Type 0
+GivesRefused t rs answer = TellsRefused (plain t) rs answer ⊎ (IsTrue (not (length rs == 0)) × (answer ≡ failed out_of_memory))
+
+-- `refused_range` does so
+abbrev pub FindsRefused : List ℕ → List RangeEntry → Answer → Type 0
+FindsRefused t entries answer = OnUtf8 (t ∷ []) (GivesRefused t (ranges_of entries) answer) (answer ≡ failed not_utf8)
 
 -- the text t with the codes applied to each match of p, if they are codes
 abbrev pub marked_or_none : List ℕ → List ℕ → List ℕ → Option (List ℕ)

@@ -1,6 +1,7 @@
--- The style of a block, as numbers.
+-- Styles as numbers.
 use Rattle.std.specs.Prelude.{◌≡◌, ◌⊎◌, ℕ, Bool, Option, None, Some, IsTrue}
 use Rattle.ansi_style.specs.declared.state.rendition.Rendition.{Rendition}
+use Rattle.ansi_style.specs.Sets.{union, difference}
 use Rattle.ansi_str.specs.Rendition.{plain_style}
 use Rattle.ansi_str.specs.States.{rendition_of_numbers, AreExact}
 use Rattle.ansi_style.specs.declared.numbers.StyleNumbers.{StyleNumbers}
@@ -27,3 +28,11 @@ IsStyleFound (Some s) answer = HasStyle ok s answer
 -- the same, or the call runs out of memory, if it allocates
 abbrev pub TellsStyle : Bool → Option Rendition → StyleAnswer → Type 0
 TellsStyle takes_memory found answer = IsStyleFound found answer ⊎ (IsTrue takes_memory × HasNoStyle out_of_memory answer)
+
+-- `style_union` returns what is set in either of two styles; a color or a font of the second is taken before that of the first
+abbrev pub IsUnion : StyleNumbers → StyleNumbers → StyleNumbers → Type 0
+IsUnion first second made = IsStyleOf (union (rendition_of_numbers first) (rendition_of_numbers second)) made
+
+-- `style_difference` returns what is set in the first of two styles and isn't set so in the second
+abbrev pub IsDifference : StyleNumbers → StyleNumbers → StyleNumbers → Type 0
+IsDifference first second made = IsStyleOf (difference (rendition_of_numbers first) (rendition_of_numbers second)) made

@@ -18,5 +18,6 @@ pub mod replacements;
 pub mod restyles;
 pub mod safe;
 pub mod searches;
+pub mod styles;
 pub mod texts;
 pub mod walks;

@@ -11,6 +11,8 @@ ghost use Rattle.std.proofs.Common.{append-nil};
 ghost use Rattle.ansi_str.specs.Plain.{has_escape};
 ghost use Rattle.ansi_str.specs.Parts.{all_parts};
 ghost use Rattle.ansi_str.specs.Blocks.{Block, blocks};
+ghost use Rattle.ansi_str.specs.States.{rendition_of};
+ghost use Rattle.ansi_str.specs.Written.{close_if_any};
 ghost use Rattle.ansi_calls.specs.Answers.{out_of_memory};
 ghost use Rattle.ansi_calls.specs.Lists.{none, ends_from, AreEntries};
 ghost use Rattle.ansi_calls.specs.Lists.{IsBlockEntry, styled_text, IsStyledBlockEntry};
@@ -24,11 +26,11 @@ use ansi_safe::utf8::from_utf8;
 use ansi_str::split::{PushNext, split_in};
 use ansi_str::{AnsiBlock, AnsiStr, get_blocks, laws};
 use ansi_style::numbers::StyleNumbers;
+use ansi_style::state::Style;
 use ansi_style::styles;
 use memchr::memchr_iter;
 use std::alloc::{AllocError, Allocator};
 use std::borrow::CowStr;
-use std::fmt::Write;
 
 /// The result of a call that returns several texts: a status, their number, and their total length
 /// in bytes.
@@ -143,11 +145,11 @@ impl Listed for StyledBlockEntry {
         block: &AnsiBlock<'_, A>,
     ) -> Result<StyledBlockEntry, AllocError> {
         let style = block.style();
-        write!(texts, "{}", style.start())?;
+        styles::write_start(style, texts)?;
         let text_start = texts.len();
         texts.push_str(block.text())?;
         let text_end = texts.len();
-        write!(texts, "{}", style.end())?;
+        push_close(texts, style)?;
         Ok(StyledBlockEntry {
             text_start,
             text_end,
@@ -155,6 +157,17 @@ impl Listed for StyledBlockEntry {
             style: StyleNumbers::of(style),
         })
     }
+}
+
+/// Appends the sequences that reset a style.
+fn push_close<A: Allocator>(texts: &mut String<A>, style: &Style) -> Result<(), AllocError>
+    ensures { OnOk result (string_bytes texts.new
+        ≡ string_bytes texts.old ++ close_if_any (rendition_of style.now)) }
+{
+    if !styles::has_any(style) {
+        return Ok(());
+    }
+    styles::write_close(style, texts)
 }
 
 /// All parts of a text between the matches of a pattern, and where each ends.

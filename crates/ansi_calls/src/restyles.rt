@@ -1,16 +1,18 @@
-//! Calls on matches and on ranges: where a pattern occurs, parts of a text in another style, and a
-//! text without a part or with another text in its place.
+//! Calls on matches and on ranges: where a pattern occurs, which range is refused, parts of a text in
+//! another style, and a text without a part or with another text in its place.
 ghost use Rattle.std.specs.Prelude.{◌≡◌, ◌≤◌, ◌+◌, ◌++◌, [], length, drop};
 ghost use Rattle.std.specs.Prelude.{IfOk, IsOk};
+ghost use Rattle.ansi_items.specs.Plain.{plain};
 ghost use Rattle.ansi_calls.specs.Lists.{AreWritten};
 ghost use Rattle.ansi_calls.specs.Restyles.{match_entries, WritesMatches, ranges_of};
-ghost use Rattle.ansi_calls.specs.Restyles.{Restyles, GivesRestyled, Marks, GivesMarked};
+ghost use Rattle.ansi_calls.specs.Restyles.{Restyles, GivesRestyled, FindsRefused, TellsRefused};
+ghost use Rattle.ansi_calls.specs.Restyles.{Marks, GivesMarked};
 ghost use Rattle.ansi_calls.specs.Restyles.{Removes, GivesRemoved};
 ghost use Rattle.ansi_calls.specs.Restyles.{Replaces, GivesReplaced, Inserts, GivesInserted};
 ghost use Rattle.ansi_calls.specs.Restyles.{ReplacesAll, GivesReplacedAll};
 
 use crate::answers::{
-    Answer, NOT_UTF8, OK, OUT_OF_MEMORY, REFUSED, TOO_SMALL, write_found, write_text,
+    Answer, NO, NOT_UTF8, OK, OUT_OF_MEMORY, REFUSED, TOO_SMALL, write_found, write_text,
 };
 use crate::lists::{ListAnswer, put};
 use ansi_restyle::matches::Matches;
@@ -131,6 +133,29 @@ fn ranges_of<A: Allocator>(
         ranges.push((entry.start, entry.end))?;
     }
     Ok(ranges)
+}
+
+/// The index of the first range that `restyle` and `replace_each` refuse.
+pub fn refused_range<A: Allocator>(alloc: A, text: &[u8], entries: &[RangeEntry]) -> Answer
+    ensures { FindsRefused text.now entries.now result }
+{
+    let Ok(text) = from_utf8(text) else {
+        return Answer::failed(NOT_UTF8);
+    };
+    match ranges_of(alloc, entries) {
+        Ok(ranges) => first_refused(text, ranges.as_slice()),
+        Err(_) => Answer::failed(OUT_OF_MEMORY),
+    }
+}
+
+/// The same for a text that is known to be UTF-8, and pairs.
+fn first_refused(text: &str, ranges: &[(usize, usize)]) -> Answer
+    ensures { TellsRefused (plain text.now) ranges.now result }
+{
+    match ansi_restyle::restyle::refused_range(text, ranges) {
+        Some(index) => Answer::done(index),
+        None => Answer::failed(NO),
+    }
 }
 
 /// The text with SGR codes applied to each match of a pattern. The call is refused if they aren't

@@ -1,5 +1,6 @@
 //! Calls that return one text, made from the text that they take.
-ghost use Rattle.std.specs.Prelude.{◌≡◌, ◌∷◌, [], Some, option_map, IsTrue, IsOk, IfOk};
+ghost use Rattle.std.specs.Prelude.{◌≡◌, ◌+◌, ◌<◌, ◌≤◌, ◌^◌, ◌∷◌, ◌++◌, [], length, take, drop};
+ghost use Rattle.std.specs.Prelude.{Some, option_map, IsTrue, IsOk, IfOk};
 ghost use Rattle.std.specs.Cow.{cow_str_bytes};
 ghost use Rattle.ansi_str.specs.Plain.{plain, has_escape};
 ghost use Rattle.ansi_str.specs.Edited.{edited, stay_borrowed};
@@ -8,11 +9,13 @@ ghost use Rattle.ansi_calls.specs.Answers.{no, Gives};
 ghost use Rattle.ansi_calls.specs.Calls.{Strips, Changes, Cuts, TakesLeft, TakesRight, Trims};
 ghost use Rattle.ansi_calls.specs.Calls.{StripsPrefix, StripsSuffix, TakesPart};
 
-use crate::answers::{Answer, NO, NOT_UTF8, OUT_OF_MEMORY, REFUSED, write, write_found};
+use crate::answers::{Answer, NO, NOT_UTF8, OUT_OF_MEMORY, REFUSED, TOO_SMALL, write, write_found};
+use crate::lists::put;
+use ansi_items::ansitok::{Kind, Scanner};
 use ansi_safe::utf8::from_utf8;
 use ansi_str::Edit;
 use ansi_str::edits::edit_once;
-use ansi_str::slice::strip_in;
+use ansi_str::slice::{has_any, strip_in};
 use std::alloc::{AllocError, Allocator};
 use std::borrow::CowStr;
 
@@ -26,14 +29,59 @@ pub fn strip<A: Allocator>(alloc: A, text: &[u8], buffer: &mut [u8]) -> Answer
     }
 }
 
-/// The same for a text that is known to be UTF-8.
+/// The same for a text that is known to be UTF-8. Allocates only if the buffer has some room, but
+/// less than the text's length.
 pub fn strip_text<A: Allocator>(alloc: A, text: &str, buffer: &mut [u8]) -> Answer
     ensures { Gives no (has_escape text.now) (Some (plain text.now)) result buffer.old buffer.new }
 {
+    if !has_any(text) {
+        return write(text.as_bytes(), buffer);
+    }
+    if text.len() <= buffer.len() {
+        return Answer::done(copy_plain(text, buffer));
+    }
+    if buffer.is_empty() {
+        return match copy_plain(text, &mut []) {
+            0 => Answer::done(0),
+            len => Answer {
+                status: TOO_SMALL,
+                len,
+            },
+        };
+    }
     match strip_in(alloc, text) {
         Ok(plain) => write(plain.as_bytes(), buffer),
         Err(_) => Answer::failed(OUT_OF_MEMORY),
     }
+}
+
+/// Writes the plain text, if there is room for it. Returns its length.
+fn copy_plain(text: &str, buffer: &mut [u8]) -> usize
+    ensures len { result ≡ length (plain text.now) }
+    ensures bytes { length (plain text.now) ≤ length buffer.old →
+        buffer.new ≡ plain text.now ++ drop (length (plain text.now)) buffer.old }
+{
+    let bytes = text.as_bytes();
+    let mut len = 0;
+    for item in Scanner::new(text) {
+        if item.kind == Kind::Text {
+            len = put_run(&bytes[item.start..item.end], len, buffer);
+        }
+    }
+    len
+}
+
+/// Copies a run of the plain text to a place in the buffer, if there is room for it. Returns the
+/// place after it. It isn't inlined, so that the loop over the sequences has the registers.
+#[inline(never)]
+fn put_run(run: &[u8], place: usize, buffer: &mut [u8]) -> usize
+    requires { place + length run.now < 2 ^ 64 }
+    ensures bytes { place + length run.now ≤ length buffer.old →
+        buffer.new ≡ take place buffer.old ++ run.now ++ drop (place + length run.now) buffer.old }
+    ensures same_len { length buffer.new ≡ length buffer.old }
+    ensures after { result ≡ place + length run.now }
+{
+    put(run, place, buffer)
 }
 
 /// The text from one position up to another.

@@ -1,8 +1,10 @@
 //! Calls that return the blocks and the parts of a text one by one. The walk is kept in the caller's
 //! memory.
 ghost use Rattle.std.specs.Prelude.{◌≡◌, not, ◌==◌, length, Some, IsUtf8};
+ghost use Rattle.std.specs.Prelude.{IfOk, IfSome, string_bytes};
 ghost use Rattle.ansi_str.specs.Blocks.{sequences_before};
-ghost use Rattle.ansi_str.specs.States.{rendition_of_numbers};
+ghost use Rattle.ansi_str.specs.States.{rendition_of, rendition_of_numbers};
+ghost use Rattle.ansi_str.specs.Written.{start, close};
 ghost use Rattle.ansi_split.specs.Walks.{IsPartWalk};
 ghost use Rattle.ansi_calls.specs.Answers.{no, Gives};
 ghost use Rattle.ansi_calls.specs.Walks.{IsOver, GivesNext, GivesNextPart};
@@ -13,10 +15,14 @@ use ansi_blocks::runs::{Run, first_styled_run, sequences_before};
 use ansi_safe::utf8::from_utf8;
 use ansi_split::walks::{PartWalk, next_in, walk_in};
 use ansi_style::numbers::StyleNumbers;
+use ansi_style::state::Style;
 use ansi_style::styles;
-use std::alloc::Allocator;
+use std::alloc::{AllocError, Allocator};
 use std::borrow::CowStr;
 use std::str::from_utf8_unchecked;
+
+/// Room for what sets or resets most styles.
+const ROOM: usize = 32;
 
 /// The state of a walk over blocks: the text after the last block, and the style of that block.
 #[repr(C)]
@@ -63,16 +69,21 @@ pub fn walk_over(text: &str) -> BlockWalk<'_>
     }
 }
 
-/// Writes the sequences before the first run of a text. Allocates only if there are any.
+/// Writes the sequences before the first run of a text. Allocates only if an SGR follows one of
+/// them.
 fn write_waiting<A: Allocator>(alloc: A, text: &str, run: &Run<'_>, buffer: &mut [u8]) -> Answer
-    requires { run.now.len_before ≡ length (sequences_before text.now 0) }
+    requires len { run.now.len_before ≡ length (sequences_before text.now 0) }
+    requires together { IfSome run.now.together (λ s. s.now ≡ sequences_before text.now 0) }
     ensures { Gives no (not (length (sequences_before text.now 0) == 0))
         (Some (sequences_before text.now 0)) result buffer.old buffer.new }
 {
     if run.len_before == 0 {
         return Answer::done(0);
     }
-    write_made(sequences_before(alloc, text, run.len_before), buffer)
+    match run.together {
+        Some(sequences) => write(sequences.as_bytes(), buffer),
+        None => write_made(sequences_before(alloc, text, run.len_before), buffer),
+    }
 }
 
 /// Takes the next block off a walk.
@@ -107,17 +118,44 @@ pub fn blocks_next<'a, A: Allocator>(
 }
 
 /// The sequences that set a style.
+#[tactic(auto, using(ansi_style::proofs::UnsetLemmas::unset_styles))]
 pub fn style_start<A: Allocator>(alloc: A, style: &StyleNumbers, buffer: &mut [u8]) -> Answer
     ensures { WritesStart (rendition_of_numbers style.now) result buffer.old buffer.new }
 {
-    write_made(style.style().start().to_string(alloc), buffer)
+    let style = style.style();
+    if !styles::has_any(&style) {
+        return Answer::done(0);
+    }
+    write_made(start_of(alloc, &style), buffer)
+}
+
+/// The sequences that set a style, as a text of its own. `Err` means out of memory.
+fn start_of<A: Allocator>(alloc: A, style: &Style) -> Result<String<A>, AllocError>
+    ensures { IfOk result (λ s. string_bytes s ≡ start (rendition_of style.now)) }
+{
+    let mut start = String::with_capacity(alloc, ROOM)?;
+    styles::write_start(style, &mut start)?;
+    Ok(start)
 }
 
 /// The sequences that reset a style.
 pub fn style_end<A: Allocator>(alloc: A, style: &StyleNumbers, buffer: &mut [u8]) -> Answer
     ensures { WritesClose (rendition_of_numbers style.now) result buffer.old buffer.new }
 {
-    write_made(style.style().end().to_string(alloc), buffer)
+    let style = style.style();
+    if !styles::has_any(&style) {
+        return Answer::done(0);
+    }
+    write_made(close_of(alloc, &style), buffer)
+}
+
+/// The sequences that reset a style, as a text of its own. `Err` means out of memory.
+fn close_of<A: Allocator>(alloc: A, style: &Style) -> Result<String<A>, AllocError>
+    ensures { IfOk result (λ s. string_bytes s ≡ close (rendition_of style.now)) }
+{
+    let mut end = String::with_capacity(alloc, ROOM)?;
+    styles::write_close(style, &mut end)?;
+    Ok(end)
 }
 
 /// Begins a walk over the parts of a text between the matches of a pattern.

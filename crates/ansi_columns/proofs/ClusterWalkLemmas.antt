@@ -1,5 +1,5 @@
 -- How far a walk over one cluster has come.
-use Rattle.std.proofs.Common.{◌≡◌, ◌≢◌, ℕ, ◌+◌, ◌<◌, ◌≤◌, true, false, List, [], ◌∷◌, ◌++◌, length, encode_utf8, refl, sym, ◌∙◌, ap, ap₂, subst, arith}
+use Rattle.std.proofs.Common.{◌≡◌, ◌≢◌, ℕ, ◌+◌, ◌<◌, ◌≤◌, true, false, List, [], ◌∷◌, ◌++◌, length, encode_utf8, sym, ◌∙◌, ap, ap₂, subst, arith}
 use Rattle.std.specs.Str.{IsUtf8, IsCharBoundary}
 use Rattle.unicode_segmentation.specs.Grapheme.{is_grapheme_break}
 use Rattle.unicode_segmentation.proofs.TextLemmas.{encode_utf8_nonempty}
@@ -8,7 +8,7 @@ use Rattle.ansi_columns.specs.declared.views.View.{View}
 use Rattle.ansi_columns.specs.declared.views.View.TheVariants.{Given}
 use Rattle.ansi_columns.specs.declared.walks.Walk.{Walk}
 use Rattle.ansi_columns.specs.Views.{seen_char, seen}
-use Rattle.ansi_columns.specs.Walks.{cluster, seen_before, seen_after, seen_cluster, clusters_after, seen_clusters, IsWalkIn, IsNext, IsSeenNext}
+use Rattle.ansi_columns.specs.Walks.{seen_before, seen_after, seen_cluster, clusters_after, seen_clusters, IsWalkIn, IsNext, IsSeenNext}
 use Rattle.ansi_columns.proofs.ClusterLemmas.{clusters_with, cluster-begins, cluster-goes_on, cluster-ends, cluster-last, clusters-none}
 use Rattle.ansi_columns.proofs.ViewLemmas.{seen-one, before-one, after-one, cluster-none, cluster-split}
 use Rattle.ansi_columns.proofs.WalkLemmas.{walk_boundary, boundary_past, cluster-push}

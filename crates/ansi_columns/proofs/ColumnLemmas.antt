@@ -11,7 +11,7 @@ use Rattle.ansi_items.proofs.Utf8Lemmas.{IsUtf8-plain}
 use Rattle.ansi_search.proofs.SliceLemmas.{length-slice_range}
 use Rattle.ansi_columns.specs.Columns.{clusters, cluster_width, columns_of, columns, bytes_of, FitsUpTo}
 use Rattle.ansi_columns.specs.declared.views.View.{View}
-use Rattle.ansi_columns.specs.declared.views.View.TheVariants.{Given, Shown}
+use Rattle.ansi_columns.specs.declared.views.View.TheVariants.{Given, Shown, Lined}
 use Rattle.ansi_columns.specs.declared.walks.Walk.{Walk}
 use Rattle.ansi_columns.specs.Views.{seen_char, seen, seen_text, seen_len}
 use Rattle.ansi_columns.specs.Walks.{after, cluster, clusters_after, clusters_from, seen_after, seen_cluster, seen_clusters, IsWalkIn, IsSeenNext, IsFittingTo, SeesUpTo, IsCountedTo}
@@ -47,9 +47,10 @@ counted-end {view} {t} {n} counted none = omega (arith, counted.all, ap columns_
 
 -- The clusters up to a position that fit.
 
-seen_len-start : (view : View) (t : List ℕ) → seen_len view t 0 ≡ 0
+pub seen_len-start : (view : View) (t : List ℕ) → seen_len view t 0 ≡ 0
 seen_len-start Given t = refl
 seen_len-start Shown t = ap (λ cs. length (encode_utf8_all (seen Shown cs))) chars-nil
+seen_len-start Lined t = ap (λ cs. length (encode_utf8_all (seen Lined cs))) chars-nil
 
 pub fitting-begin : (view : View) (t : List ℕ) (width : ℕ) → IsUtf8 t → IsFittingTo view t width 0 width
 fitting-begin view t width utf8 = record { front = []; all = sym (seen_clusters-start view t utf8); boundary = seen_len-start view t; columns = zero-add width }

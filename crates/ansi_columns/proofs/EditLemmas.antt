@@ -21,7 +21,7 @@ use Rattle.ansi_columns.specs.Columns.{columns}
 use Rattle.ansi_columns.specs.Edits.{Change, change_of, changes_of, IsLent, AreLent, Expanded, Sliced, Truncated, Padded, Fitted, HasUtf8Tail, is_expansion, changed, changed_in_turn, only_expand, edited, changed_row, row_in_turn, edited_row}
 use Rattle.ansi_columns.specs.Rows.{row, cell_row, row_screen, truncated_row_at, fitted_row}
 use Rattle.ansi_columns.specs.Screens.{screen}
-use Rattle.ansi_columns.specs.Shown.{padded, closed_cell}
+use Rattle.ansi_columns.specs.Shown.{closed_cell}
 use Rattle.ansi_columns.specs.Tabs.{piece_has_tab, expanded}
 use Rattle.ansi_columns.proofs.CleanShownLemmas.{clean-padded_cell, clean-sliced_cell}
 use Rattle.ansi_columns.proofs.IndentLemmas.{padded-closed_alone}
@@ -73,14 +73,14 @@ pieces-without_tab (Text w ∷ ps) all =
 pieces-without_tab (Sequence w ∷ ps) all = pieces-without_tab ps all
 pieces-without_tab (LoneEscape ∷ ps) all = pieces-without_tab ps all
 
-expanded-shown : (stop : ℕ) (t : List ℕ) → IsShown t → expanded stop t ≡ t
+pub expanded-shown : (stop : ℕ) (t : List ℕ) → IsShown t → expanded stop t ≡ t
 expanded-shown stop t shown = expanded-no_tab stop t (pieces-without_tab (pieces_of t) (clean-one_line shown.clean))
 
 shown-utf8 : (t : List ℕ) → IsShown t → IsUtf8 t
 shown-utf8 t shown = subst IsUtf8 shown.clean.spell (good-utf8 shown.clean.pieces shown.clean.good)
 
 -- what is shown of it is its row
-cell_row-shown : (t : List ℕ) → IsShown t → cell_row t ≡ row t
+pub cell_row-shown : (t : List ℕ) → IsShown t → cell_row t ≡ row t
 cell_row-shown t shown = ap row (clean-stays t (shown-utf8 t shown) shown.clean)
 
 -- so changes change that alone
@@ -111,7 +111,7 @@ module _ (u : List ℕ) (utf8 : IsUtf8 u) where
       record { clean = clean-padded_cell u width alignment utf8; shut = record { whole = padded-whole (cell u) width alignment whole; closed = padded-is_closed (cell u) width alignment whole } }
   shown-changed (Fitted width alignment tail) tail_utf8 other = shown-fitted u utf8 width (closed_cell tail) (shown-cell tail tail_utf8) alignment
 
-  row-changed : (change : Change) → HasUtf8Tail change → is_expansion change ≡ false → row (changed change u) ≡ changed_row change (cell_row u)
+  pub row-changed : (change : Change) → HasUtf8Tail change → is_expansion change ≡ false → row (changed change u) ≡ changed_row change (cell_row u)
   row-changed (Expanded stop) tail_utf8 other = absurd (cc other)
   row-changed (Sliced start end) tail_utf8 other = row-sliced (cell u) start end cell_utf8 whole
   row-changed (Truncated side width tail) tail_utf8 other =

@@ -1,20 +1,23 @@
 -- What fits of a text into a width: whether it is all of the text, and its end as a function.
 use Rattle.std.proofs.Common.{◌≡◌, ℕ, zero, suc, ◌+◌, ◌-◌, ◌<◌, ◌≤◌, true, false, List, [], ◌∷◌, ◌++◌, length, take, flat_map, encode_utf8_all, nat_le, if◌then◌else◌, refl, sym, ◌∙◌, ap, arith, append-nil, length-append}
-use Rattle.std.specs.Str.{IsUtf8}
+use Rattle.std.specs.Str.{IsUtf8, chars}
 use Rattle.std.proofs.lemmas.Bool.{le-leb, lt-leb}
 use Rattle.std.proofs.lemmas.List.{take_at}
 use Rattle.std.proofs.lemmas.List.Sums.{sum_by-cons, sum_by-append}
+use Rattle.std.proofs.lemmas.Str.{scalars-chars}
+use Rattle.ansi_items.specs.Plain.{plain}
 use Rattle.ansi_items.proofs.Utf8Lemmas.{IsUtf8-plain}
 use Rattle.ansi_safe.specs.Cells.{cell}
 use Rattle.ansi_safe.proofs.CellTextLemmas.{IsUtf8-cell}
-use Rattle.ansi_columns.specs.Columns.{clusters, cluster_width, columns_of, columns, bytes_of, FitsUpTo}
+use Rattle.ansi_columns.specs.Columns.{clusters, cluster_width, columns_of, columns, bytes_of, FitsUpTo, line_char}
 use Rattle.ansi_columns.specs.declared.views.View.{View}
-use Rattle.ansi_columns.specs.declared.views.View.TheVariants.{Given, Shown}
+use Rattle.ansi_columns.specs.declared.views.View.TheVariants.{Given, Shown, Lined}
 use Rattle.ansi_columns.specs.Views.{seen_text, seen_len}
 use Rattle.ansi_columns.specs.Walks.{seen_after, seen_cluster, seen_clusters, IsFittingTo}
 use Rattle.ansi_columns.specs.Shown.{fitting_end}
 use Rattle.ansi_columns.proofs.ClusterLawLemmas.{columns-front}
 use Rattle.ansi_columns.proofs.ColumnLemmas.{seen_clusters-end}
+use Rattle.ansi_columns.proofs.ViewLemmas.{line_chars-scalar}
 
 -- if all fits, its columns and those that are left are the width
 pub IsFittingTo-columns : {view : View} {t : List ℕ} {width n left : ℕ} → IsFittingTo view t width n left → seen_after view t n ≡ [] → columns (seen_text view t) + left ≡ width
@@ -56,6 +59,7 @@ fitting_end-fits {x} {width} fit = fit.boundary ∙ fitting_end-count (clusters 
 seen_text-utf8 : (view : View) (t : List ℕ) → IsUtf8 t → IsUtf8 (seen_text view t)
 seen_text-utf8 Given t utf8 = IsUtf8-plain t utf8
 seen_text-utf8 Shown t utf8 = IsUtf8-plain (cell t) (IsUtf8-cell t utf8)
+seen_text-utf8 Lined t utf8 = (let cs = chars (plain t) in (flat_map line_char cs, (line_chars-scalar cs (scalars-chars (plain t) (IsUtf8-plain t utf8)), refl)))
 
 -- the columns of the clusters that fit are those of the text up to their end, and of the same text up to a later position before which nothing more is seen
 pub fitting-columns : {view : View} {t : List ℕ} {width n left : ℕ} (m : ℕ) → IsFittingTo view t width n left → IsUtf8 t → seen_len view t m ≡ seen_len view t n → columns (take (seen_len view t m) (seen_text view t)) + left ≡ width

@@ -1,5 +1,5 @@
 -- A run of a text before which there is only printable ASCII: the walk there, and the clusters before it.
-use Rattle.std.proofs.Common.{◌≡◌, ℕ, ◌+◌, ◌-◌, ◌*◌, ◌<◌, ◌≤◌, true, List, [], ◌∷◌, ◌++◌, length, take, drop, reverse, chars, encode_utf8_all, refl, sym, ◌∙◌, ap, ap₂, subst, arith, append-nil, length-append}
+use Rattle.std.proofs.Common.{◌≡◌, ℕ, ◌+◌, ◌-◌, ◌<◌, ◌≤◌, true, List, [], ◌∷◌, ◌++◌, length, take, drop, reverse, chars, encode_utf8_all, refl, sym, ◌∙◌, ap, ap₂, subst, arith, append-nil, length-append}
 use Rattle.std.specs.List.{list_all}
 use Rattle.std.specs.Str.{IsUtf8, IsAscii, IsCharBoundary}
 use Rattle.std.proofs.lemmas.Bool.{and_from, and_parts}
@@ -20,7 +20,7 @@ use Rattle.ansi_columns.specs.declared.views.View.{View}
 use Rattle.ansi_columns.specs.declared.views.View.TheVariants.{Shown}
 use Rattle.ansi_columns.specs.declared.walks.Walk.{Walk}
 use Rattle.ansi_columns.specs.BreakStates.{break_state_of}
-use Rattle.ansi_columns.specs.Columns.{cluster_width, columns, columns_of}
+use Rattle.ansi_columns.specs.Columns.{cluster_width, columns_of}
 use Rattle.ansi_columns.specs.Views.{seen, seen_text}
 use Rattle.ansi_columns.specs.Walks.{clusters_after, seen_before, seen_after, seen_clusters, IsWalkIn, IsCountedTo, IsFittingTo, EndsAscii}
 use Rattle.ansi_columns.proofs.AsciiLemmas.{is_printable, All-printable_is_ascii, break_state-printable, breaks-between}

@@ -1,14 +1,21 @@
 -- Lines after indents.
-use Rattle.std.proofs.Common.{◌≡◌, ℕ, ◌-◌, List, [], ◌∷◌, ◌++◌, length, drop, ◌==◌, Option, None, Some, Result, Ok, Err, IsTrue, refl, sym, ◌∙◌, ap, arith, append_assoc, append-nil}
+use Rattle.std.proofs.Common.{◌≡◌, ℕ, ◌-◌, max, List, [], ◌∷◌, ◌++◌, length, drop, map, ◌==◌, Option, None, Some, Result, Ok, Err, IsTrue, refl, sym, ◌∙◌, ap, arith, append_assoc, append-nil}
 use Rattle.std.specs.List.{list_all}
 use Rattle.std.proofs.lemmas.Bool.{and_from, and_parts, eqb-true}
 use Rattle.std.proofs.lemmas.List.{take-append-drop}
+use Rattle.std.proofs.lemmas.Str.{chars-nil}
+use Rattle.ansi_items.specs.Plain.{plain}
+use Rattle.ansi_safe.specs.Cells.{cell}
+use Rattle.ansi_columns.specs.Columns.{columns, columns_of}
 use Rattle.ansi_columns.specs.declared.shown.Alignment.TheVariants.{Left}
 use Rattle.ansi_columns.specs.Shown.{missing, before_text, blanks, closing, padded}
 use Rattle.ansi_style.specs.Writing.{BeginsWith}
 use Rattle.ansi_style.proofs.FrontLemmas.{begins_more, begins_itself}
 use Rattle.ansi_split.specs.Splits.{CarriedPart, PushesPart}
-use Rattle.ansi_columns.specs.Indents.{shown_indent, after_indent, indented}
+use Rattle.ansi_columns.specs.Walks.{clusters_after}
+use Rattle.ansi_columns.specs.Indents.{shown_indent, after_indent, indented, wrapped_with}
+use Rattle.ansi_columns.specs.Wrapped.{wrapped}
+use Rattle.ansi_columns.proofs.ClusterLemmas.{clusters-none}
 
 -- a text padded to no columns is the text, closed
 pub padded-closed_alone : (t : List ℕ) → padded t 0 Left ≡ t ++ closing t
@@ -21,6 +28,26 @@ padded-closed_alone t =
 pub indented-borrowed : (ls : List CarriedPart) → IsTrue (list_all (λ (l : CarriedPart). l.borrowed) ls) → IsTrue (list_all (λ (l : CarriedPart). l.borrowed) (indented [] [] ls))
 indented-borrowed [] all = refl
 indented-borrowed (l ∷ ls) all = (let both = and_parts _ _ all in and_from _ _ both.0 (indented-borrowed ls both.1))
+
+-- nor are they other lines: an empty indent has no columns
+
+pub empty_indent-width : columns (plain (cell [])) ≡ 0
+empty_indent-width = ap columns_of (ap (clusters_after []) chars-nil ∙ clusters-none [])
+
+indented-bytes : (ls : List CarriedPart) → map (λ (l : CarriedPart). l.bytes) (indented [] [] ls) ≡ map (λ (l : CarriedPart). l.bytes) ls
+indented-bytes [] = refl
+indented-bytes (l ∷ ls) = ap (λ ts. l.bytes ∷ ts) (indented-bytes ls)
+
+pub wrapped_with-bytes : (t : List ℕ) (width : ℕ) → map (λ (l : CarriedPart). l.bytes) (wrapped_with t width [] []) ≡ map (λ (l : CarriedPart). l.bytes) (wrapped t width)
+wrapped_with-bytes t width =
+    let all : width - 0 ≡ width = omega arith in
+    let same : width - max (columns (plain (cell []))) (columns (plain (cell []))) ≡ width = ap (λ n. width - max n n) empty_indent-width ∙ all in
+    indented-bytes (wrapped t (width - max (columns (plain (cell []))) (columns (plain (cell []))))) ∙ ap (λ w. map (λ (l : CarriedPart). l.bytes) (wrapped t w)) same
+
+-- no line is after indents only if none is without
+pub indented-none : (first later : List ℕ) (ls : List CarriedPart) → indented first later ls ≡ [] → ls ≡ []
+indented-none first later [] none = refl
+indented-none first later (l ∷ ls) none = absurd (cc none)
 
 -- an indent and the first line after it are appended
 

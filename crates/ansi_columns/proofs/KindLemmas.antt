@@ -39,10 +39,10 @@ unfolding is_line_end
 is_line_end-crlf cluster is = or_right (bytes_eq cluster (0x0A ∷ [])) (bytes_eq cluster (0x0D ∷ 0x0A ∷ [])) ((bytes_eq-Decides cluster (0x0D ∷ 0x0A ∷ [])).1 is)
 
 -- the equation of the first of two lists
-cons-heads : {c d : ℕ} {cs ds : List ℕ} → c ∷ cs ≡ d ∷ ds → c ≡ d
+pub cons-heads : {c d : ℕ} {cs ds : List ℕ} → c ∷ cs ≡ d ∷ ds → c ≡ d
 cons-heads e = cc
 
-cons-tails : {c d : ℕ} {cs ds : List ℕ} → c ∷ cs ≡ d ∷ ds → cs ≡ ds
+pub cons-tails : {c d : ℕ} {cs ds : List ℕ} → c ∷ cs ≡ d ∷ ds → cs ≡ ds
 cons-tails e = cc
 
 -- an ASCII character has one byte

@@ -4,6 +4,7 @@ pub mod SingleLemmas
 pub mod AsciiLemmas
 pub mod PlaceLemmas
 pub mod ViewLemmas
+pub mod TightLemmas
 pub mod WalkLemmas
 pub mod ReverseLemmas
 pub mod NearLemmas
@@ -23,8 +24,11 @@ pub mod LineLemmas
 pub mod LineStartLemmas
 pub mod LineWalkLemmas
 pub mod WordLemmas
+pub mod LineReadLemmas
+pub mod AloneLemmas
 pub mod FirstFitLemmas
 pub mod LineLawLemmas
+pub mod ShownLineLemmas
 mod LineExamples
 pub mod ClusterLawLemmas
 pub mod BreakLawLemmas

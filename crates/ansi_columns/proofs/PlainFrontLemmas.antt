@@ -1,15 +1,15 @@
 -- The front of a text of a cell that is printable ASCII and SGRs, up to a run: the walk there, what of the run stays too, and where the text is cut if it goes on past the width.
-use Rattle.std.proofs.Common.{◌≡◌, ◌≢◌, ℕ, zero, suc, ◌+◌, ◌-◌, ◌<◌, ◌≤◌, inl, inr, true, false, List, [], ◌∷◌, ◌++◌, length, take, drop, reverse, slice_index, slice_range, chars, encode_utf8_all, nat_le, if◌then◌else◌, Some, refl, sym, ◌∙◌, ap, ap₂, subst, arith, append-nil, length-append, take-add}
+use Rattle.std.proofs.Common.{◌≡◌, ◌≢◌, ℕ, zero, suc, ◌+◌, ◌-◌, ◌<◌, ◌≤◌, inl, inr, true, false, List, [], ◌∷◌, ◌++◌, length, take, drop, slice_index, slice_range, chars, nat_le, if◌then◌else◌, Some, refl, sym, ◌∙◌, ap, ap₂, subst, arith, length-append, take-add}
 use Rattle.std.specs.List.{list_all}
 use Rattle.std.specs.Str.{IsUtf8, IsAscii, IsCharBoundary}
 use Rattle.std.proofs.Math.Seq.{drop-cons}
 use Rattle.std.proofs.lemmas.Bool.{and_from, and_parts, cases_lt, lt-leb}
 use Rattle.std.proofs.lemmas.Grind.{flat_map-append}
-use Rattle.std.proofs.lemmas.List.{drop_at, take_all, take_at, take-append-le, take-take}
+use Rattle.std.proofs.lemmas.List.{take-append-le, take-take}
 use Rattle.std.proofs.lemmas.List.Folds.{list_all-append}
 use Rattle.std.proofs.lemmas.List.Sums.{sum_by-append}
-use Rattle.std.proofs.lemmas.Str.{chars-append, chars-IsAscii, IsUtf8-append, IsUtf8-from_ascii, IsUtf8-take}
-use Rattle.std.proofs.lemmas.Str.Ascii.{IsAscii-from_all, encodes-IsAscii}
+use Rattle.std.proofs.lemmas.Str.{IsUtf8-append, IsUtf8-from_ascii, IsUtf8-take}
+use Rattle.std.proofs.lemmas.Str.Ascii.{IsAscii-from_all}
 use Rattle.unicode_segmentation.specs.Grapheme.{is_grapheme_break}
 use Rattle.ansi_items.specs.declared.ansitok.Item.{Item}
 use Rattle.ansi_items.specs.declared.ansitok.Kind.TheVariants.{Text as TextKind}
@@ -24,8 +24,7 @@ use Rattle.ansi_style.specs.declared.state.rendition.Rendition.{Rendition}
 use Rattle.ansi_style.specs.Rendition.{plain_style}
 use Rattle.ansi_style.specs.Written.{close}
 use Rattle.ansi_style.proofs.StyledLemmas.{style_through, style_through-append}
-use Rattle.ansi_search.specs.Offsets.{bytes_before, offset_of}
-use Rattle.ansi_search.proofs.OffsetLemmas.{IsOverText, bytes_before-last, over_text, take-after}
+use Rattle.ansi_search.proofs.OffsetLemmas.{IsOverText, over_text, take-after}
 use Rattle.ansi_search.proofs.SliceLemmas.{list_all-parts}
 use Rattle.ansi_safe.specs.Cells.{cell}
 use Rattle.ansi_columns.specs.declared.views.View.{View}
@@ -36,18 +35,17 @@ use Rattle.ansi_columns.specs.Columns.{clusters, cluster_width, columns_of, colu
 use Rattle.ansi_columns.specs.PlainCells.{IsPlainText, IsAtRun, IsPlainBefore, IsPlainCut}
 use Rattle.ansi_columns.specs.Shown.{has_tail, truncated_width, KeptStays}
 use Rattle.ansi_columns.specs.Views.{seen, seen_text, seen_len}
-use Rattle.ansi_columns.specs.Walks.{clusters_after, seen_before, seen_after, seen_clusters, IsWalkIn, IsNext, IsPrintable, IsPrintableFront, IsPastAscii, AreClustersIn, IsFittingTo, SeesUpTo, walk_at_run}
-use Rattle.ansi_columns.proofs.AsciiLemmas.{is_printable, printable-below_7F, All-printable_is_ascii, break_state-printable, breaks-between, width-single}
-use Rattle.ansi_columns.proofs.ClusterLawLemmas.{reversed_before, cluster-alone}
+use Rattle.ansi_columns.specs.Walks.{seen_clusters, IsWalkIn, IsNext, IsPrintable, IsPrintableFront, IsPastAscii, AreClustersIn, IsFittingTo, SeesUpTo, walk_at_run}
+use Rattle.ansi_columns.proofs.AsciiLemmas.{is_printable, printable-below_7F, All-printable_is_ascii, width-single}
 use Rattle.ansi_columns.proofs.ColumnLemmas.{fitting-before, sees-up_to}
 use Rattle.ansi_columns.proofs.FitLemmas.{fitting-columns}
 use Rattle.ansi_columns.proofs.FrontRunLemmas.{fitting-run, fitting-walk, run-bytes, run-walk}
-use Rattle.ansi_columns.proofs.KeptLemmas.{bytes_before-append, truncated-front}
-use Rattle.ansi_columns.proofs.MissingLemmas.{IsLack, lack-beside, reversed-is}
+use Rattle.ansi_columns.proofs.KeptLemmas.{truncated-front}
+use Rattle.ansi_columns.proofs.MissingLemmas.{IsLack, lack-beside}
 use Rattle.ansi_columns.proofs.PlainCellLemmas.{is_plain_piece, IsPlainSoFar, plain-printable, plain-text}
-use Rattle.ansi_columns.proofs.PrintableLemmas.{slice_range-take, next-ascii, all-index, singles, columns-singles, bytes-singles, front-size, printable-at, columns-past, fitting-past, front-fewer, IsPrintable-front}
+use Rattle.ansi_columns.proofs.PrintableLemmas.{slice_range-take, next-ascii, all-index, front-size, printable-at, columns-past, fitting-past, front-fewer, IsPrintable-front}
 use Rattle.ansi_columns.proofs.ShownLemmas.{IsCutTo}
-use Rattle.ansi_columns.proofs.ViewLemmas.{seen-append, seen-chars, seen-printable, seen-all_printable}
+use Rattle.ansi_columns.proofs.ViewLemmas.{seen-printable}
 
 -- ---- the text up to a byte of the run
 

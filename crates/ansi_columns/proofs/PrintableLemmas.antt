@@ -1,5 +1,5 @@
 -- A walk over printable ASCII: each byte that another one follows is a cluster of one column.
-use Rattle.std.proofs.Common.{◌≡◌, ℕ, zero, suc, ◌+◌, ◌-◌, ◌<◌, ◌≤◌, nat_lt, ap₂, inl, inr, true, ◌==◌, ◌||◌, List, [], ◌∷◌, ◌++◌, length, map, take, drop, slice_index, slice_range, encode_utf8, encode_utf8_all, refl, sym, ◌∙◌, ap, subst, arith, append-nil, append_assoc, ◌&&◌}
+use Rattle.std.proofs.Common.{◌≡◌, ℕ, zero, suc, ◌+◌, ◌-◌, ◌<◌, ◌≤◌, nat_lt, ap₂, inl, inr, true, ◌==◌, ◌||◌, List, [], ◌∷◌, ◌++◌, length, map, take, drop, slice_index, slice_range, encode_utf8, encode_utf8_all, refl, sym, ◌∙◌, ap, subst, arith, append-nil, append_assoc, ◌&&◌, Bool, false, if◌then◌else◌}
 use Rattle.std.specs.List.{list_all, prefix_len}
 use Rattle.std.specs.Str.{chars, IsUtf8, IsCharBoundary}
 use Rattle.std.proofs.lemmas.Bool.{and_parts, cases_lt}
@@ -15,11 +15,12 @@ use Rattle.ansi_items.proofs.SequenceLemmas.{all-run}
 use Rattle.ansi_search.specs.Offsets.{offset_of}
 use Rattle.ansi_search.proofs.SliceLemmas.{length-slice_range}
 use Rattle.ansi_columns.specs.declared.walks.Walk.{Walk}
+use Rattle.ansi_safe.specs.Cells.{cell_char}
 use Rattle.ansi_safe.specs.Safe.{is_printing}
 use Rattle.ansi_columns.specs.BreakStates.{break_state_of, IsSingle}
 use Rattle.ansi_columns.specs.Columns.{cluster_width, columns_of, bytes_of}
 use Rattle.ansi_columns.specs.declared.views.View.{View}
-use Rattle.ansi_columns.specs.declared.views.View.TheVariants.{Given, Shown}
+use Rattle.ansi_columns.specs.declared.views.View.TheVariants.{Given, Shown, Lined}
 use Rattle.ansi_columns.specs.Views.{seen_char, seen, seen_len}
 use Rattle.ansi_columns.specs.Walks.{IsRun, IsPrintableFront, IsPastAscii, after, cluster, clusters_after, seen_before, seen_after, seen_cluster, seen_clusters, is_seen_ascii, IsWalkIn, IsNext, IsPrintable, AreClustersIn, IsFittingTo, IsPastClusters, IsPastLast, IsCountedTo, EndsAscii, BreaksAfterAscii, has_width}
 use Rattle.ansi_columns.proofs.AsciiLemmas.{is_printable, printable-below_7F, All-printable_is_ascii, break_state-printable, breaks-before_ascii, width-single, IsSingle-printable}
@@ -47,6 +48,11 @@ slice_range-take t a n = (let same : a + n - a ≡ n = omega arith in ap (λ m. 
 seen-any : (view : View) (c : ℕ) → seen_char Shown c ≡ c ∷ [] → seen_char view c ≡ c ∷ []
 seen-any Given c is = refl
 seen-any Shown c is = is
+seen-any Lined c is = by (c == 10)
+  where
+    by : (w : Bool) → (if w then c ∷ [] else cell_char c) ≡ c ∷ []
+    by true = refl
+    by false = is
 
 -- the walk after n bytes of printable ASCII
 abbrev pub advanced : Walk → ℕ → Walk

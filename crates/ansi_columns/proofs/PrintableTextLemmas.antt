@@ -23,7 +23,6 @@ use Rattle.ansi_columns.specs.Columns.{columns_of}
 use Rattle.ansi_columns.specs.Columns.{columns as columns_in}
 use Rattle.ansi_columns.specs.Views.{seen, seen_text}
 use Rattle.ansi_columns.specs.declared.walks.Walk.{Walk}
-use Rattle.ansi_columns.specs.BreakStates.{break_state_of}
 use Rattle.ansi_columns.specs.Walks.{clusters_after, IsWalkIn, IsCounted, IsCountedTo, EndsAscii, walk_at_run}
 use Rattle.ansi_columns.proofs.FrontRunLemmas.{counted-walk, run-walk}
 use Rattle.ansi_columns.proofs.AsciiLemmas.{is_printable, All-printable_is_ascii, columns-printable}

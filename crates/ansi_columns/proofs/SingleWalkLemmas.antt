@@ -1,5 +1,5 @@
 -- A walk over a single character before another: it is a cluster by itself.
-use Rattle.std.proofs.Common.{◌≡◌, ◌≢◌, ℕ, ◌+◌, ◌*◌, ◌<◌, ◌≤◌, true, ◌&&◌, List, [], ◌∷◌, ◌++◌, length, slice_range, encode_utf8, refl, sym, ◌∙◌, ap, ap₂, arith, append_assoc, length-append}
+use Rattle.std.proofs.Common.{◌≡◌, ◌≢◌, ℕ, ◌+◌, ◌<◌, true, ◌&&◌, List, [], ◌∷◌, ◌++◌, length, slice_range, encode_utf8, refl, sym, ◌∙◌, ap, ap₂, arith, append_assoc, length-append}
 use Rattle.std.specs.Str.{IsUtf8}
 use Rattle.std.proofs.lemmas.Bool.{lt-ltb}
 use Rattle.std.proofs.lemmas.List.Folds.{list_all-append}
@@ -17,6 +17,7 @@ use Rattle.ansi_columns.specs.Views.{seen}
 use Rattle.ansi_columns.specs.Walks.{after, seen_before, seen_after, seen_cluster, seen_clusters, IsWalkIn, IsNext, IsSeenNext, IsPastCluster, IsPastClusters, has_width}
 use Rattle.ansi_columns.proofs.SingleLemmas.{breaks-single}
 use Rattle.ansi_columns.proofs.ViewLemmas.{seen-one, seen-append, seen-printing, before-one, cluster-none, seen_len-split}
+use Rattle.ansi_columns.proofs.TightLemmas.{tight-one}
 use Rattle.ansi_columns.proofs.WalkLemmas.{walk_boundary, after-past, rest_at, walk-on}
 use Rattle.ansi_columns.proofs.ColumnLemmas.{bytes_of-push, bytes_of-append, columns_of-push}
 use Rattle.ansi_columns.proofs.WidthLemmas.{width-alone-bound}
@@ -58,7 +59,7 @@ module _ (view : View) (t : List ℕ) (utf8 : IsUtf8 t) (w : Walk) (walk : IsWal
       let after_is = seen_after-printing view t utf8 v later d next_then shown_next.printing in
       let breaks : is_grapheme_break true (seen_before view t v.position) (seen_after view t v.position) ≡ true
       = ap₂ (is_grapheme_break true) before_is after_is.1 ∙ breaks-single (seen_before view t w.position) c d after_is.0 shown.single shown_next.single in
-      (later, past.3, cluster-stops (cluster-first view t utf8 w.position v.position c past.3 begin past.0 past.1) breaks, shown.columns_are ∙ ap cluster_width (sym past.1), omega (arith, shown.columns_are, width-alone-bound c, position))
+      (later, past.3, cluster-stops (cluster-first view t utf8 w.position v.position c past.3 begin past.0 past.1) breaks, shown.columns_are ∙ ap cluster_width (sym past.1), omega (arith, shown.columns_are, width-alone-bound c, position), tight-one view t utf8 w.position v.position (omega (arith, past.3)) begin past.0 c past.1 position)
 
 -- ---- several clusters
 

@@ -1,19 +1,16 @@
 -- Printable ASCII on a line: words and blanks, all of which fit.
-use Rattle.std.proofs.Common.{◌≡◌, ◌≢◌, ℕ, suc, ◌+◌, ◌-◌, ◌*◌, ◌<◌, ◌≤◌, Bool, true, false, ◌==◌, List, [], ◌∷◌, ◌++◌, length, take, drop, slice_index, slice_range, encode_utf8_all, refl, sym, ◌∙◌, ap, subst, arith, eqb-true, inr, true≢false, Some, None, append_assoc, take-append-drop, if◌then◌else◌}
+use Rattle.std.proofs.Common.{◌≡◌, ◌≢◌, ℕ, suc, ◌+◌, ◌-◌, ◌<◌, ◌≤◌, Bool, true, false, ◌==◌, List, [], ◌∷◌, ◌++◌, length, take, drop, slice_index, encode_utf8_all, refl, sym, ◌∙◌, ap, subst, arith, eqb-true, inr, true≢false, Some, None, append_assoc, take-append-drop, if◌then◌else◌}
 use Rattle.std.specs.List.{list_all}
 use Rattle.std.proofs.lemmas.Bool.{and_parts, eq-eqb, ne_eqb, false_from_ne_true}
 use Rattle.std.proofs.lemmas.List.{take_more, get_or-drop, length-drop, length-take-le}
 use Rattle.memchr.specs.Find.{IsLastByte, is_byte}
 use Rattle.std.proofs.lemmas.Bool.Decides.{nat_tests}
-use Rattle.ansi_columns.specs.declared.walks.Walk.{Walk}
-use Rattle.ansi_columns.specs.declared.views.View.TheVariants.{Given}
-use Rattle.ansi_columns.specs.Walks.{IsWalk, IsPastAscii, AreClusters}
 use Rattle.ansi_columns.specs.Lines.{is_line_end}
 use Rattle.ansi_columns.specs.Words.{end_after, words_after}
 use Rattle.ansi_columns.proofs.AsciiLemmas.{is_printable, width-single}
 use Rattle.ansi_columns.proofs.KindLemmas.{is_blank-other, is_blank-space, not_line_end}
 use Rattle.ansi_columns.proofs.LineWalkLemmas.{IsLineTo, line-goes_on, line-takes}
-use Rattle.ansi_columns.proofs.PrintableLemmas.{bytes-single, front-size}
+use Rattle.ansi_columns.proofs.PrintableLemmas.{bytes-single}
 
 -- ---- where the words end
 
@@ -149,17 +146,22 @@ inside-printable b printable =
     (λ e. (let is : b ≡ 0x0A = ap (λ x. slice_index x 0) e in absurd (omega (arith, is, printable-above b printable))))
     (λ e. absurd (omega (arith, ap length e)))
 
--- the positions of a line, as a triple
-abbrev IsLineAt : List ℕ → ℕ → ℕ → ℕ × ℕ × ℕ → ℕ → ℕ → Type 0
-IsLineAt t width start words here columns = IsLineTo t width start words.0 words.1 words.2 here columns
+-- the bytes are the clusters at a place, each by itself
+abbrev pub AreAhead : (ℕ → List (List ℕ)) → ℕ → List ℕ → Type 0
+AreAhead cl n [] = Unit
+AreAhead cl n (b ∷ bs) = (cl n ≡ (b ∷ []) ∷ cl (n + 1)) × AreAhead cl (n + 1) bs
 
-pub line-printable : {t : List ℕ} {width start : ℕ} (bytes : List ℕ) (here before word end columns : ℕ) → IsLineTo t width start before word end here columns → start ≤ here
-    → AreClusters t here bytes → list_all is_printable bytes ≡ true → (0 < length bytes → columns + length bytes ≤ width) → IsLineAt t width start (words_after bytes here before word end) (here + length bytes) (columns + length bytes)
-line-printable {t} {width} {start} [] here before word end columns line begun are all fits =
+-- the positions of a line, as a triple
+abbrev pub IsLineAt : (ℕ → List (List ℕ)) → ℕ → ℕ → ℕ × ℕ × ℕ → ℕ → ℕ → Type 0
+IsLineAt cl width start words here columns = IsLineTo cl width start words.0 words.1 words.2 here columns
+
+pub line-printable : {cl : ℕ → List (List ℕ)} {width start : ℕ} (bytes : List ℕ) (here before word end columns : ℕ) → IsLineTo cl width start before word end here columns → start ≤ here
+    → AreAhead cl here bytes → list_all is_printable bytes ≡ true → (0 < length bytes → columns + length bytes ≤ width) → IsLineAt cl width start (words_after bytes here before word end) (here + length bytes) (columns + length bytes)
+line-printable {cl} {width} {start} [] here before word end columns line begun are all fits =
     let place : here + 0 ≡ here = omega arith in
     let total : columns + 0 ≡ columns = omega arith in
     rw (place, total) line
-line-printable {t} {width} {start} (b ∷ bs) here before word end columns line begun are all fits =
+line-printable {cl} {width} {start} (b ∷ bs) here before word end columns line begun are all fits =
     let parts = and_parts _ _ all in
     let room : columns + 1 + length bs ≤ width = omega (arith, fits (omega arith)) in
     by_test (b == 0x20) refl parts.0 room (λ before word end line. line-printable bs (here + 1) before word end (columns + 1) line (omega (arith, begun)) are.1 parts.1 (λ _. room))
@@ -171,26 +173,26 @@ line-printable {t} {width} {start} (b ∷ bs) here before word end columns line 
     total = omega arith
 
     by_test : (c : Bool) → (b == 0x20) ≡ c → is_printable b ≡ true → columns + 1 + length bs ≤ width
-        → ((before word end : ℕ) → IsLineTo t width start before word end (here + 1) (columns + 1) → IsLineAt t width start (words_after bs (here + 1) before word end) (here + 1 + length bs) (columns + 1 + length bs))
-        → IsLineAt t width start (if c then words_after bs (here + 1) end (here + 1) end else words_after bs (here + 1) before word (here + 1)) (here + suc (length bs)) (columns + suc (length bs))
+        → ((before word end : ℕ) → IsLineTo cl width start before word end (here + 1) (columns + 1) → IsLineAt cl width start (words_after bs (here + 1) before word end) (here + 1 + length bs) (columns + 1 + length bs))
+        → IsLineAt cl width start (if c then words_after bs (here + 1) end (here + 1) end else words_after bs (here + 1) before word (here + 1)) (here + suc (length bs)) (columns + suc (length bs))
     by_test true is printable room others =
         let size : length (encode_utf8_all (b ∷ [])) ≡ here + 1 - here = omega (arith, bytes-single b printable) in
-        subst (λ n. IsLineAt t width start (words_after bs (here + 1) end (here + 1) end) n (columns + suc (length bs))) place
-        (subst (IsLineAt t width start (words_after bs (here + 1) end (here + 1) end) (here + 1 + length bs)) total
-        (others end (here + 1) end (line-goes_on t width start before word end here columns line begun (b ∷ []) (here + 1) 1 are.0 size (omega arith) (sym (width-single b printable)) (inside-printable b printable)
+        subst (λ n. IsLineAt cl width start (words_after bs (here + 1) end (here + 1) end) n (columns + suc (length bs))) place
+        (subst (IsLineAt cl width start (words_after bs (here + 1) end (here + 1) end) (here + 1 + length bs)) total
+        (others end (here + 1) end (line-goes_on cl width start before word end here columns line begun (b ∷ []) (here + 1) 1 are.0 size (omega arith) (sym (width-single b printable)) (inside-printable b printable)
         (is_blank-space (b ∷ []) (ap (λ x. x ∷ []) (eqb-true b 0x20 is))))))
     by_test false is printable room others =
         let size : length (encode_utf8_all (b ∷ [])) ≡ here + 1 - here = omega (arith, bytes-single b printable) in
         let solid = λ (e : ◌≡◌ {A = List ℕ} (b ∷ []) (0x20 ∷ [])). (let same : b ≡ 0x20 = ap (λ x. slice_index x 0) e in absurd (true≢false (sym (eq-eqb b 0x20 same) ∙ is))) in
-        subst (λ n. IsLineAt t width start (words_after bs (here + 1) before word (here + 1)) n (columns + suc (length bs))) place
-        (subst (IsLineAt t width start (words_after bs (here + 1) before word (here + 1)) (here + 1 + length bs)) total
-        (others before word (here + 1) (line-takes t width start before word end here columns line begun (b ∷ []) (here + 1) 1 are.0 size (omega arith) (sym (width-single b printable))
+        subst (λ n. IsLineAt cl width start (words_after bs (here + 1) before word (here + 1)) n (columns + suc (length bs))) place
+        (subst (IsLineAt cl width start (words_after bs (here + 1) before word (here + 1)) (here + 1 + length bs)) total
+        (others before word (here + 1) (line-takes cl width start before word end here columns line begun (b ∷ []) (here + 1) 1 are.0 size (omega arith) (sym (width-single b printable))
         (record { inside = inside-printable b printable; solid = is_blank-other (b ∷ []) solid }) (inr (omega (arith, room))))))
 
 abbrev pub AreOrdered : ℕ → ℕ × ℕ × ℕ → ℕ → Type 0
 AreOrdered start words here = (start ≤ words.0) × (words.0 ≤ words.1) × (start ≤ words.2) × (words.2 ≤ here)
 
-words_after-ordered : (bytes : List ℕ) (start here before word end : ℕ) → AreOrdered start (before, word, end) here → AreOrdered start (words_after bytes here before word end) (here + length bytes)
+pub words_after-ordered : (bytes : List ℕ) (start here before word end : ℕ) → AreOrdered start (before, word, end) here → AreOrdered start (words_after bytes here before word end) (here + length bytes)
 words_after-ordered [] start here before word end ordered = (let same : here + 0 ≡ here = omega arith in rw same ordered)
 words_after-ordered (b ∷ bs) start here before word end ordered =
     by_test (b == 0x20) (λ before word end ordered. words_after-ordered bs start (here + 1) before word end ordered)
@@ -202,38 +204,3 @@ words_after-ordered (b ∷ bs) start here before word end ordered =
         → AreOrdered start (if c then words_after bs (here + 1) end (here + 1) end else words_after bs (here + 1) before word (here + 1)) (here + suc (length bs))
     by_test true others = subst (AreOrdered start (words_after bs (here + 1) end (here + 1) end)) place (others end (here + 1) end (ordered.2, omega (arith, ordered.3), ordered.2, omega (arith, ordered.3)))
     by_test false others = subst (AreOrdered start (words_after bs (here + 1) before word (here + 1))) place (others before word (here + 1) (ordered.0, ordered.1, omega (arith, ordered.2, ordered.3), omega arith))
-
--- A line is read up to the walk `here`, with `columns` columns.
-pub record IsLineRead (t : List ℕ) (width : ℕ) (start end_before word end here : Walk) (columns : ℕ) : Type 0 where
-  pub here_walk : IsWalk t here
-  pub word_walk : IsWalk t word
-  pub end_before_walk : IsWalk t end_before
-  pub end_walk : IsWalk t end
-  pub ordered : AreOrdered start.position (end_before.position, word.position, end.position) here.position
-  pub bound : columns ≤ 2 * here.position
-  pub line : IsLineTo t width start.position end_before.position word.position end.position here.position columns
-
--- printable ASCII is read
-pub read-printable : {t : List ℕ} {width : ℕ} {start end_before word end here end_before' word' end' here' : Walk} {columns len : ℕ} → IsLineRead t width start end_before word end here columns
-    → IsPastAscii t here len here' → len ≤ width - columns → IsWalk t end_before' → IsWalk t word' → IsWalk t end'
-    → (end_before'.position, word'.position, end'.position) ≡ words_after (slice_range t here.offset (here.offset + len)) here.position end_before.position word.position end.position
-    → IsLineRead t width start end_before' word' end' here' (columns + len)
-read-printable {t} {width} {start} {end_before} {word} {end} {here} {end_before'} {word'} {end'} {here'} {columns} {len} read past room before_walk word_walk end_walk positions =
-    let bytes = slice_range t here.offset (here.offset + len) in
-    let words = words_after bytes here.position end_before.position word.position end.position in
-    let size = front-size read.here_walk past.front in
-    let same_place : here.position + length bytes ≡ here'.position = omega (arith, size, past.position) in
-    let same_total : columns + length bytes ≡ columns + len = omega (arith, size) in
-    record {
-      here_walk = past.walk Given read.here_walk;
-      word_walk = word_walk;
-      end_before_walk = before_walk;
-      end_walk = end_walk;
-      ordered = subst (λ w. AreOrdered start.position w here'.position) (sym positions)
-          (subst (AreOrdered start.position words) same_place (words_after-ordered bytes start.position here.position end_before.position word.position end.position read.ordered));
-      bound = omega (arith, read.bound, past.position);
-      line = subst (λ w. IsLineAt t width start.position w here'.position (columns + len)) (sym positions)
-          (subst (λ m. IsLineAt t width start.position words m (columns + len)) same_place
-          (subst (IsLineAt t width start.position words (here.position + length bytes)) same_total
-          (line-printable bytes here.position end_before.position word.position end.position columns read.line (omega (arith, read.ordered.2, read.ordered.3)) (past.clusters Given) past.front.bytes (λ some. omega (arith, some, size, room)))));
-    }

@@ -1,7 +1,7 @@
 -- The display width of a text: the clusters of its plain text, and the width of each cluster.
-use Rattle.std.specs.Prelude.{◌≡◌, ℕ, ◌+◌, ◌<◌, ◌≤◌, true, false, List, [], length, take, flat_map, encode_utf8_all, chars, Option, None, Some, if◌then◌else◌}
+use Rattle.std.specs.Prelude.{◌≡◌, ℕ, ◌+◌, ◌-◌, ◌<◌, ◌≤◌, ◌==◌, true, false, List, [], ◌∷◌, length, take, flat_map, encode_utf8, encode_utf8_all, chars, Option, None, Some, if◌then◌else◌}
 use Rattle.std.specs.List.{sum_by}
-use Rattle.std.specs.Str.{IsCharBoundary}
+use Rattle.std.specs.Str.{byte, IsCharBoundary}
 use Rattle.ansi_items.specs.Plain.{plain}
 use Rattle.ansi_search.specs.Positions.{is_good_position}
 use Rattle.ansi_safe.specs.Cells.{cell, cell_char}
@@ -39,6 +39,19 @@ pub record FitsUpTo (x : List ℕ) (width end : ℕ) : Type 0 where
 -- what a terminal shows of the characters of the plain text x: of each what it is in a cell (own)
 abbrev pub shown : List ℕ → List ℕ
 shown x = encode_utf8_all (flat_map cell_char (chars x))
+
+-- what lines show of a character: what a terminal does, but LF as it is, since it ends a line (own)
+abbrev pub line_char : ℕ → List ℕ
+line_char c = if c == byte "\n" then c ∷ [] else cell_char c
+
+-- what lines show of the characters of the plain text x: a paragraph in which each line end is LF alone (own)
+abbrev pub lined : List ℕ → List ℕ
+lined x = encode_utf8_all (flat_map line_char (chars x))
+
+-- the least byte of characters before which n bytes are seen, if `see` says what is seen of each (own)
+abbrev pub least_place : (ℕ → List ℕ) → ℕ → List ℕ → ℕ
+least_place see n [] = 0
+least_place see n (c ∷ cs) = if n == 0 then 0 else length (encode_utf8 c) + least_place see (n - length (encode_utf8_all (see c))) cs
 
 -- the column of a position of the plain text of t, which counts the columns of what is shown before it, if the position is good (own)
 abbrev pub column_of : List ℕ → ℕ → Option ℕ

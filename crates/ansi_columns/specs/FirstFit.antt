@@ -1,8 +1,8 @@
 -- First fit: the words of a text on lines of a width, as a relation.
-use Rattle.std.specs.Prelude.{◌≡◌, ℕ, ◌+◌, ◌<◌, ◌≤◌, max, ◌⊎◌, Bool, true, false, not, ◌||◌, ◌==◌, nat_le, List, [], ◌∷◌, ◌++◌, length, take, encode_utf8_all, IsTrue, IsFalse, if◌then◌else◌}
+use Rattle.std.specs.Prelude.{◌≡◌, ℕ, ◌+◌, ◌<◌, ◌≤◌, max, ◌⊎◌, Bool, true, false, not, ◌||◌, ◌==◌, nat_le, List, [], ◌∷◌, ◌++◌, length, map, take, All, encode_utf8_all, IsTrue, IsFalse, if◌then◌else◌}
 use Rattle.std.specs.List.{list_all}
-use Rattle.ansi_columns.specs.Columns.{columns_of, bytes_of}
-use Rattle.ansi_columns.specs.Lines.{is_line_end, is_blank}
+use Rattle.ansi_columns.specs.Columns.{clusters, columns_of, bytes_of, lined}
+use Rattle.ansi_columns.specs.Lines.{is_line_end, is_blank, IsLine, place_line}
 
 -- a cluster is one of a word
 abbrev pub is_of_word : List ℕ → Bool
@@ -68,3 +68,10 @@ AreFirstFit width place cs (line ∷ lines) =
 -- these are the lines of the clusters of a text; a width of 0 is treated as 1
 abbrev pub IsFirstFit : ℕ → List (List ℕ) → List (ℕ × ℕ) → Type 0
 IsFirstFit width cs lines = AreFirstFit (max width 1) 0 cs lines
+
+-- These are the lines of what lines show of the plain text x, as positions of x: the least before which as much is shown. (Own.)
+pub record AreShownLines (width : ℕ) (x : List ℕ) (lines : List (ℕ × ℕ)) : Type 0 where
+  pub shown : List (ℕ × ℕ)
+  pub first_fit : IsFirstFit width (clusters (lined x)) shown
+  pub each : All (IsLine (lined x) width) shown
+  pub places : lines ≡ map (place_line x) shown

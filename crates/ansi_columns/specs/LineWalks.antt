@@ -5,8 +5,9 @@ use Rattle.ansi_columns.specs.declared.break_state.BreakState.{BreakState}
 use Rattle.ansi_columns.specs.declared.line_walks.BreakNumbers.{BreakNumbers}
 use Rattle.ansi_columns.specs.declared.line_walks.LineWalk.{LineWalk}
 use Rattle.ansi_columns.specs.declared.walks.Walk.{Walk}
-use Rattle.ansi_columns.specs.Lines.{lines_left}
-use Rattle.ansi_columns.specs.Walks.{IsWalk}
+use Rattle.ansi_columns.specs.declared.views.View.TheVariants.{Lined}
+use Rattle.ansi_columns.specs.Lines.{seen_lines_left}
+use Rattle.ansi_columns.specs.Walks.{IsTightWalk}
 
 -- the state that the numbers encode
 abbrev pub break_state_of_numbers : BreakNumbers → BreakState
@@ -24,9 +25,9 @@ walk_of w = if w.has_next then Some (record { position = w.position; offset = w.
 
 -- the lines that a walk has left
 abbrev pub lines_of_walk : LineWalk → List (ℕ × ℕ)
-lines_of_walk w = lines_left w.text.now w.width (walk_of w)
+lines_of_walk w = seen_lines_left Lined w.text.now w.width (walk_of w)
 
 -- a walk as the library leaves it: its bytes are a text, and the next line begins at a place of a walk over that
 pub record IsLineWalk (w : LineWalk) : Type 0 where
   pub text : IsUtf8 w.text.now
-  pub next : IfSome (walk_of w) (IsWalk w.text.now)
+  pub next : IfSome (walk_of w) (IsTightWalk Lined w.text.now)

@@ -1,9 +1,12 @@
 -- The lines of a text that is wrapped at a width: where they begin and end, one cluster after another, and what follows from that.
-use Rattle.std.specs.Prelude.{◌≡◌, ℕ, ◌+◌, ◌≤◌, max, ◌⊎◌, Bool, true, false, ◌||◌, ◌==◌, nat_le, List, [], ◌∷◌, ◌++◌, length, take, drop, slice_range, Option, Some, None, codes, bytes_eq, encode_utf8_all, IsTrue, if◌then◌else◌}
+use Rattle.std.specs.Prelude.{◌≡◌, ℕ, ◌+◌, ◌<◌, ◌≤◌, max, ◌⊎◌, Bool, true, false, ◌||◌, ◌==◌, nat_le, List, [], ◌∷◌, ◌++◌, length, map, take, drop, slice_range, chars, Option, Some, None, IfSome, codes, bytes_eq, encode_utf8_all, IsTrue, if◌then◌else◌}
 use Rattle.ansi_search.specs.Positions.{is_good_range}
-use Rattle.ansi_columns.specs.Columns.{clusters, cluster_width, columns_of, bytes_of}
+use Rattle.ansi_columns.specs.Columns.{clusters, cluster_width, columns_of, bytes_of, line_char, lined, least_place}
 use Rattle.ansi_columns.specs.Shown.{blanks}
-use Rattle.ansi_columns.specs.Walks.{clusters_from}
+use Rattle.ansi_columns.specs.Views.{seen_len, given_place}
+use Rattle.ansi_columns.specs.Walks.{clusters_from, seen_clusters, IsWalkIn, IsTightWalk}
+use Rattle.ansi_columns.specs.declared.views.View.{View}
+use Rattle.ansi_columns.specs.declared.views.View.TheVariants.{Given}
 use Rattle.ansi_columns.specs.declared.walks.Walk.{Walk}
 
 -- a cluster is the end of a line: a line feed, or a carriage return and a line feed (as std's `lines`)
@@ -49,6 +52,38 @@ lines width x = lines_from (max width 1) 0 0 0 0 (clusters x)
 abbrev pub lines_left : List ℕ → ℕ → Option Walk → List (ℕ × ℕ)
 lines_left t width None = []
 lines_left t width (Some walk) = lines_from width walk.position walk.position walk.position 0 (clusters_from t walk.position)
+
+-- what a line is as positions of the plain text of t, if it is given as bytes of what is seen of it
+abbrev pub given_line : View → List ℕ → ℕ × ℕ → ℕ × ℕ
+given_line view t line = (given_place view t line.0, given_place view t line.1)
+
+-- the lines of what is seen of the plain text of t that begin at the walk, as positions of the plain text
+abbrev pub seen_lines_left : View → List ℕ → ℕ → Option Walk → List (ℕ × ℕ)
+seen_lines_left Given t width next = lines_left t width next
+seen_lines_left view t width None = []
+seen_lines_left view t width (Some walk) = (let n = seen_len view t walk.position in map (given_line view t) (lines_from width n n n 0 (seen_clusters view t walk.position)))
+
+-- The line that begins at the walk `start` ends at `end`, and `next` is where the next one begins, if there is one.
+pub record IsPastLine (view : View) (t : List ℕ) (width : ℕ) (start end : Walk) (next : Option Walk) : Type 0 where
+  pub end_is : IsWalkIn view t end
+  pub next_is : IfSome next (IsTightWalk view t)
+  pub ordered : start.position ≤ end.position
+  pub next_ordered : IfSome next (λ walk. end.position ≤ walk.position)
+  pub lines : seen_lines_left view t width (Some start) ≡ (start.position, end.position) ∷ seen_lines_left view t width next
+
+-- The line that would begin at the walk `start` begins at `word`, after an indent.
+pub record IsPastIndent (view : View) (t : List ℕ) (width : ℕ) (start word : Walk) : Type 0 where
+  pub word_is : IsTightWalk view t word
+  pub further : start.position < word.position
+  pub lines : seen_lines_left view t width (Some start) ≡ seen_lines_left view t width (Some word)
+
+-- positions of what lines show of the plain text x, as the least of x before which as much is shown (own)
+abbrev pub place_line : List ℕ → ℕ × ℕ → ℕ × ℕ
+place_line x line = (least_place line_char line.0 (chars x), least_place line_char line.1 (chars x))
+
+-- the lines of what lines show of the plain text x, as positions of x (own)
+abbrev pub shown_lines : ℕ → List ℕ → List (ℕ × ℕ)
+shown_lines width x = map (place_line x) (lines width (lined x))
 
 -- A line is an interval of the clusters of x. It has at most `width` columns, or it is one cluster.
 pub record IsLine (x : List ℕ) (width : ℕ) (line : ℕ × ℕ) : Type 0 where

@@ -15,7 +15,7 @@ use Rattle.ansi_columns.specs.declared.views.View.{View}
 use Rattle.ansi_columns.specs.declared.views.View.TheVariants.{Given, Shown}
 use Rattle.ansi_columns.specs.BreakStates.{break_state_of}
 use Rattle.ansi_columns.specs.Columns.{clusters, cluster_width, columns, columns_of, bytes_of, FitsUpTo}
-use Rattle.ansi_columns.specs.Views.{seen_char, seen, seen_text, seen_len}
+use Rattle.ansi_columns.specs.Views.{seen_char, seen, seen_text, seen_len, IsTight}
 
 -- the characters of the plain text of t before the position n, the last one first
 abbrev pub before : List ℕ → ℕ → List ℕ
@@ -70,6 +70,14 @@ pub record IsWalkIn (view : View) (t : List ℕ) (walk : Walk) : Type 0 where
 abbrev pub IsWalk : List ℕ → Walk → Type 0
 IsWalk t walk = IsWalkIn Given t walk
 
+-- a walk just behind a character that it sees, or at the start
+pub record IsTightWalk (view : View) (t : List ℕ) (w : Walk) : Type 0 where
+  pub walk : IsWalkIn view t w
+  pub tight : IsTight view t w.position
+
+abbrev pub AreTightWalks : View → List ℕ → Walk → Walk → Walk → Type 0
+AreTightWalks view t a b c = IsTightWalk view t a × IsTightWalk view t b × IsTightWalk view t c
+
 -- a walk, whatever it sees
 abbrev pub IsAnyWalk : List ℕ → Walk → Type 0
 IsAnyWalk t walk = (view : View) × IsWalkIn view t walk
@@ -94,6 +102,7 @@ IsPastCluster view t from later width =
     × (seen_clusters view t from.position ≡ seen_cluster view t from.position later.position ∷ seen_clusters view t later.position)
     × (width ≡ cluster_width (seen_cluster view t from.position later.position))
     × (width ≤ 2 * (later.position - from.position))
+    × IsTight view t later.position
 
 -- `later` is the walk after the first character that is seen, which is c
 pub record IsPastFirst (view : View) (t : List ℕ) (from : Walk) (c : ℕ) (later : Walk) : Type 0 where

@@ -1,6 +1,5 @@
 -- The lines of a wrapped text, ready for display, and what `next` returns of the lines that a wrap has left.
-use Rattle.std.specs.Prelude.{◌≡◌, ℕ, ◌+◌, ◌≤◌, ◌==◌, ◌⊎◌, Bool, ◌&&◌, ◌||◌, List, [], ◌∷◌, ◌++◌, map, length, drop, bytes_eq, Option, Some, None, Result, Ok, Err, if◌then◌else◌, IsTrue, IsFalse, ◌↔◌}
-use Rattle.std.specs.Cow.{cow_str_bytes, IsBorrowedStr}
+use Rattle.std.specs.Prelude.{◌≡◌, ℕ, ◌+◌, ◌≤◌, ◌==◌, ◌⊎◌, Bool, ◌&&◌, ◌||◌, List, [], ◌∷◌, ◌++◌, map, length, drop, bytes_eq, Option, Some, Result, if◌then◌else◌, IsTrue}
 use Rattle.std.specs.Str.{IsCharBoundary}
 use Rattle.std.specs.declared.borrow.CowStr.{CowStr}
 use Rattle.ansi_items.specs.Plain.{Mark, plain, marks, marks_up_to, has_escape}

@@ -101,7 +101,7 @@ pub fn edit_columns<'t, A: Allocator + Copy>(
     ensures borrowed { IfOk result (λ c.
         IsBorrowedStr c ↔ IsLentEdited (changes_of edits.now) text.now) }
 {
-    let edited = edit_in_turn(alloc, text, edits)?;
+    let edited = edit_in_turn(alloc, CowStr::Borrowed(text), edits)?;
     if only_expand(edits) {
         // It isn't too narrow, so its link and its style are closed, and it gets no blanks.
         let close = ColumnEdit::Pad {
@@ -161,32 +161,37 @@ pub fn edit_and_wrap<'t, 'a, A: Allocator + Copy>(
     ensures owned { (AreLent (changes_of edits.now) text.now → ⊥) → IfOk result (λ lines.
         IsTrue (list_all (λ l. not l.borrowed) lines)) }
 {
-    let made = edit_in_turn(alloc, text, edits)?;
+    let made = edit_in_turn(alloc, CowStr::Borrowed(text), edits)?;
     Ok(wrap_edited(alloc, made, to))
 }
 
-/// What edits make of a text in turn. `Err` means out of memory.
-fn edit_in_turn<'t, A: Allocator + Copy>(
+/// What edits make of a text in turn. Unlike the result of [`edit_columns`], a text that is only
+/// expanded may have anything still.
+///
+/// Returns a borrow if the text is one and each edit leaves a stretch of it as it is; an owned text
+/// that stays is passed on. `Err` means out of memory. (Own.)
+pub fn edit_in_turn<'t, A: Allocator + Copy>(
     alloc: A,
-    text: &'t str,
+    text: CowStr<'t, A>,
     edits: &[ColumnEdit<'_>],
 ) -> Result<CowStr<'t, A>, AllocError>
-    ensures bytes { IfOk result (λ c.
-        cow_str_bytes c ≡ changed_in_turn (changes_of edits.now) text.now) }
-    ensures row { IfOk result (λ c.
-        cell_row (cow_str_bytes c) ≡ edited_row (changes_of edits.now) text.now) }
+    ensures bytes { IfOk result (λ c. cow_str_bytes c
+        ≡ changed_in_turn (changes_of edits.now) (cow_str_bytes text.entry)) }
+    ensures row { IfOk result (λ c. cell_row (cow_str_bytes c)
+        ≡ edited_row (changes_of edits.now) (cow_str_bytes text.entry)) }
     ensures safe { IsFalse (only_expand (changes_of edits.now)) →
         IfOk result (λ c. IsTrue (is_safe Keep (cow_str_bytes c))) }
     ensures one_line { IsFalse (only_expand (changes_of edits.now)) →
         IfOk result (λ c. IsTrue (is_one_line (cow_str_bytes c))) }
     ensures closed { IsFalse (only_expand (changes_of edits.now)) →
         IfOk result (λ c. IsClosed (cow_str_bytes c)) }
-    ensures screen { IsFalse (only_expand (changes_of edits.now)) → IfOk result (λ c.
-        screen (cow_str_bytes c) ≡ row_screen (edited_row (changes_of edits.now) text.now)) }
-    ensures borrowed { IfOk result (λ c.
-        IsBorrowedStr c ↔ AreLent (changes_of edits.now) text.now) }
+    ensures screen { IsFalse (only_expand (changes_of edits.now)) →
+        IfOk result (λ c. screen (cow_str_bytes c)
+        ≡ row_screen (edited_row (changes_of edits.now) (cow_str_bytes text.entry))) }
+    ensures borrowed { IfOk result (λ c. IsBorrowedStr c ↔ (IsBorrowedStr text.entry
+        × AreLent (changes_of edits.now) (cow_str_bytes text.entry))) }
 {
-    let mut edited = CowStr::Borrowed(text);
+    let mut edited = text;
     let mut left = edits;
     'edits: while let [edit, more @ ..] = left {
         edited = edit_column(alloc, edit, edited)?;
@@ -211,7 +216,7 @@ fn only_expand(edits: &[ColumnEdit<'_>]) -> bool
 
 /// What an edit makes of a text. Returns a borrow if the text is one and the edit leaves a stretch of
 /// it as it is; an owned text that stays is passed on. `Err` means out of memory. (Own.)
-pub fn edit_column<'t, A: Allocator + Copy>(
+fn edit_column<'t, A: Allocator + Copy>(
     alloc: A,
     edit: &ColumnEdit<'_>,
     text: CowStr<'t, A>,

@@ -2,13 +2,14 @@
 ghost use Rattle.std.specs.Prelude.{◌≡◌};
 ghost use Rattle.std.specs.Iterator.{YieldsFirst};
 ghost use Rattle.ansi_items.specs.Plain.{plain};
-ghost use Rattle.ansi_columns.specs.Lines.{lines};
+ghost use Rattle.ansi_columns.specs.Lines.{shown_lines};
 ghost use Rattle.ucd_breaks.specs.GraphemeClusterBreak.{grapheme_cluster_break_from_number};
 ghost use Rattle.ansi_columns.specs.LineWalks.{break_state_of_numbers, walk_of, lines_of_walk};
 ghost use Rattle.ansi_columns.specs.LineWalks.{IsLineWalk};
 
 use crate::break_state::BreakState;
 use crate::lines::first_line;
+use crate::views::View;
 use crate::walks::Walk;
 use std::str::from_utf8_unchecked;
 use ucd_breaks::GraphemeClusterBreak;
@@ -131,7 +132,7 @@ impl<'a> LineWalk<'a> {
 /// A walk that has all lines left. (Own.)
 pub fn walk_lines(text: &str, width: usize) -> LineWalk<'_>
     ensures walk { IsLineWalk result }
-    ensures lines { lines_of_walk result ≡ lines width (plain text.now) }
+    ensures lines { lines_of_walk result ≡ shown_lines width (plain text.now) }
 {
     LineWalk::of(text, width.max(1), Some(Walk::start(text)))
 }
@@ -144,7 +145,7 @@ pub fn next_line(walk: &mut LineWalk<'_>) -> Option<(usize, usize)>
 {
     let text = unsafe { from_utf8_unchecked(walk.text) };
     let from = walk.next()?;
-    let (start, end, next) = first_line(text, from, walk.width);
+    let (start, end, next) = first_line(text, from, walk.width, View::Lined);
     *walk = LineWalk::of(text, walk.width, next);
     Some((start.position, end.position))
 }

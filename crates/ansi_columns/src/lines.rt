@@ -1,11 +1,14 @@
 //! The beginning and the end of each line of a wrapped text.
-ghost use Rattle.std.specs.Prelude.{◌≡◌, ◌+◌, ◌<◌, ◌≤◌, ◌∷◌, Some, IfSome, All};
-ghost use Rattle.std.specs.Prelude.{slice_range};
+ghost use Rattle.std.specs.Prelude.{◌≡◌, ◌+◌, ◌<◌, ◌≤◌, [], ◌∷◌, Some, IfSome, MatchResult, All};
+ghost use Rattle.std.specs.Prelude.{slice_range, bytes_eq};
 ghost use Rattle.ansi_items.specs.Plain.{plain};
-ghost use Rattle.ansi_columns.specs.Lines.{lines_left, is_line_end, is_blank, IsLine, IsGoodLine};
-ghost use Rattle.ansi_columns.specs.Columns.{clusters};
-ghost use Rattle.ansi_columns.specs.FirstFit.{IsFirstFit};
-ghost use Rattle.ansi_columns.specs.Walks.{IsWalk, IsPrintable, IsPastAscii, cluster};
+ghost use Rattle.ansi_columns.specs.Columns.{cluster_width};
+ghost use Rattle.ansi_columns.specs.Lines.{seen_lines_left, is_line_end, is_blank};
+ghost use Rattle.ansi_columns.specs.Lines.{IsPastLine, IsPastIndent, IsGoodLine};
+ghost use Rattle.ansi_columns.specs.FirstFit.{AreShownLines};
+ghost use Rattle.ansi_columns.specs.Walks.{IsWalkIn, IsWalk, IsAnyWalk, IsTightWalk, AreTightWalks};
+ghost use Rattle.ansi_columns.specs.Walks.{IsPrintable, IsPastAscii, cluster, seen_cluster};
+ghost use Rattle.ansi_columns.specs.declared.views.View.{View};
 ghost use Rattle.ansi_columns.specs.Words.{end_after, words_after};
 
 use crate::views::View;
@@ -28,14 +31,15 @@ pub struct Lines<'t> {
 
 impl<'t> Model for Lines<'t> {
     ghost use Rattle.std.specs.Prelude.{ℕ, List, IfSome};
-    ghost use Rattle.ansi_columns.specs.Lines.{lines_left};
-    ghost use Rattle.ansi_columns.specs.Walks.{IsWalk};
+    ghost use Rattle.ansi_columns.specs.Lines.{seen_lines_left};
+    ghost use Rattle.ansi_columns.specs.Walks.{IsTightWalk};
+    ghost use Rattle.ansi_columns.specs.declared.views.View.{View};
 
     ghost Value = { List (ℕ × ℕ) };
 
-    ghost view = { λ s. lines_left s.text.now s.width s.next };
+    ghost view = { λ s. seen_lines_left View.Lined s.text.now s.width s.next };
 
-    ghost invariant = { λ s. IfSome s.next (IsWalk s.text.now) };
+    ghost invariant = { λ s. IfSome s.next (IsTightWalk View.Lined s.text.now) };
 }
 
 impl<'t> Lines<'t> {
@@ -52,21 +56,25 @@ impl<'t> Lines<'t> {
     /// - A text that ends with a line end has an empty last line.
     /// - Width 0 is treated as 1.
     ///
-    /// Positions count bytes of the plain text. They are good positions, so each line can be cut
-    /// from the text. The plain text is taken as it is: a TAB and any other control have one
-    /// column. The lines are those of `AnsiColumns::ansi_wrap` if the text is its own paragraph
-    /// (`ansi_safe::cells::paragraph_of`). Doesn't allocate. (First fit, `specs/FirstFit.antt`;
-    /// own.)
+    /// These are the lines of what is shown: a TAB is a blank, and every other control but `\n` is left
+    /// out, `\r` too.
+    ///
+    /// Positions count bytes of the plain text. Each is the least before which as much is shown, so a
+    /// line doesn't include what is left out at its end. They are good positions, so each line can be
+    /// cut from the text. Doesn't allocate. (First fit, `specs/FirstFit.antt`; own.)
     ///
     /// ```
     /// let mut lines = Lines::new("ab \x1b[1mcd  efg", 5);
     /// assert!(rt; lines.next() == Some((0, 5)));
     /// assert!(rt; lines.next() == Some((7, 10)));
     /// assert!(rt; lines.next() == None);
+    /// let mut lines = Lines::new("a\x07b\tc", 2);
+    /// assert!(rt; lines.next() == Some((0, 3)));
+    /// assert!(rt; lines.next() == Some((4, 5)));
+    /// assert!(rt; lines.next() == None);
     /// ```
     pub fn new(text: &'t str, width: usize) -> Lines<'t>
-        ensures first_fit { IsFirstFit width (clusters (plain text.now)) result }
-        ensures each { All (IsLine (plain text.now) width) result }
+        ensures first_fit { AreShownLines width (plain text.now) result }
         ensures good { All (IsGoodLine (plain text.now)) result }
     {
         Lines {
@@ -88,7 +96,7 @@ impl<'t> Iterator for Lines<'t> {
 
     fn next(&mut self) -> Option<(usize, usize)> {
         let from = self.next?;
-        let (start, end, next) = first_line(self.text, from, self.width);
+        let (start, end, next) = first_line(self.text, from, self.width, View::Lined);
         self.next = next;
         Some((start.position, end.position))
     }
@@ -98,16 +106,46 @@ impl<'t> Iterator for Lines<'t> {
 ///
 /// Reads the text up to the first cluster that doesn't fit. If an indent is left out, it reads the
 /// word after it again.
-pub(crate) fn first_line(text: &str, start: Walk, width: usize) -> (Walk, Walk, Option<Walk>)
-    requires { IsWalk text.now start }
-    ensures start { IsWalk text.now result.0 }
-    ensures end { IsWalk text.now result.1 }
+#[inline(always)]
+pub(crate) fn first_line(
+    text: &str,
+    start: Walk,
+    width: usize,
+    view: View,
+) -> (Walk, Walk, Option<Walk>)
+    requires { IsTightWalk view text.now start }
+    ensures start { IsWalkIn view text.now result.0 }
+    ensures end { IsWalkIn view text.now result.1 }
     ensures start_ordered { start.position ≤ result.0.position }
     ensures ordered { result.0.position ≤ result.1.position }
-    ensures next { IfSome result.2 (IsWalk text.now) }
+    ensures next { IfSome result.2 (IsWalkIn view text.now) }
+    ensures next_tight { IfSome result.2 (IsTightWalk view text.now) }
     ensures next_ordered { IfSome result.2 (λ next. result.1.position ≤ next.position) }
-    ensures lines { lines_left text.now width (Some start)
-        ≡ (result.0.position, result.1.position) ∷ lines_left text.now width result.2 }
+    ensures lines { seen_lines_left view text.now width (Some start)
+        ≡ (result.0.position, result.1.position) ∷ seen_lines_left view text.now width result.2 }
+{
+    let mut from = start;
+    'indents: loop {
+        match line_or_word(text, from, width, view) {
+            Ok((end, next)) => return (from, end, next),
+            Err(word) => from = word,
+        }
+    }
+}
+
+/// The end of the line that begins at a walk, and the beginning of the next line. `Err` if an indent
+/// at the walk leaves no room for its word. It is that word, which begins the line instead.
+#[inline(always)]
+fn line_or_word(
+    text: &str,
+    start: Walk,
+    width: usize,
+    view: View,
+) -> Result<(Walk, Option<Walk>), Walk>
+    requires { IsTightWalk view text.now start }
+    ensures { MatchResult result
+        (λ (end, next). IsPastLine view text.now width start end next)
+        (IsPastIndent view text.now width start) }
 {
     let mut here = start;
     // The beginning of the current word, and the end of the words before it.
@@ -126,24 +164,24 @@ pub(crate) fn first_line(text: &str, start: Walk, width: usize) -> (Walk, Walk, 
             // Its printable ASCII may be passed at once too.
             continue;
         }
-        let Some((next, more)) = here.next_cluster_before(text, next_run, View::Given) else {
-            return (start, end, None);
+        let Some((next, more)) = here.next_cluster_before(text, next_run, view) else {
+            return Ok((end, None));
         };
-        if is_line_end(text, &here, &next) {
-            return (start, end, Some(next));
+        let (ends_line, is_gap) = ends_or_parts(text, &here, &next, more, view);
+        if ends_line {
+            return Ok((end, Some(next)));
         }
-        if is_blank(text, &here, &next) {
+        if is_gap {
             end_before = end;
             word = next;
         } else if here.position == start.position || columns + more <= width {
             end = next;
         } else if word.position == start.position {
-            return (start, end, Some(here));
+            return Ok((end, Some(here)));
         } else if end_before.position == start.position {
-            // An indent without room for its word is left out.
-            return first_line(text, word, width);
+            return Err(word);
         } else {
-            return (start, end_before, Some(word));
+            return Ok((end_before, Some(word)));
         }
         columns += more;
         here = next;
@@ -161,14 +199,11 @@ fn words_after(
     word: Walk,
     end: Walk,
 ) -> (Walk, Walk, Walk)
-    requires here { IsWalk text.now here }
+    requires here { IsAnyWalk text.now here }
     requires after { IsPastAscii text.now here len after }
-    requires end_before { IsWalk text.now end_before }
-    requires word { IsWalk text.now word }
-    requires end { IsWalk text.now end }
-    ensures end_before { IsWalk text.now result.0 }
-    ensures word { IsWalk text.now result.1 }
-    ensures end { IsWalk text.now result.2 }
+    ensures walks { (view : View) → IsTightWalk view text.now here →
+        AreTightWalks view text.now end_before word end →
+        AreTightWalks view text.now result.0 result.1 result.2 }
     ensures positions { (result.0.position, result.1.position, result.2.position) ≡ words_after
         (slice_range text.now here.offset (here.offset + len)) here.position end_before.position
         word.position end.position }
@@ -193,10 +228,10 @@ fn words_after(
 /// The end of the words in the `len` bytes of printable ASCII that come next, or `end` if those are
 /// all blanks.
 fn end_after(text: &str, here: Walk, len: usize, end: Walk) -> Walk
-    requires here { IsWalk text.now here }
+    requires here { IsAnyWalk text.now here }
     requires ahead { 0 < len → IsPrintable text.now here len }
-    requires end { IsWalk text.now end }
-    ensures walk { IsWalk text.now result }
+    ensures walk { (view : View) → IsTightWalk view text.now here →
+        IsTightWalk view text.now end → IsTightWalk view text.now result }
     ensures position { result.position ≡ end_after
         (slice_range text.now here.offset (here.offset + len)) here.position end.position }
 {
@@ -210,6 +245,55 @@ fn end_after(text: &str, here: Walk, len: usize, end: Walk) -> Walk
     } else {
         here.past_printable(text, count)
     }
+}
+
+/// Whether what is seen between two walks, which is a cluster of `width` columns, is the end of a
+/// line, and whether it is a blank.
+#[inline(always)]
+fn ends_or_parts(text: &str, here: &Walk, next: &Walk, width: usize, view: View) -> (bool, bool)
+    requires here { IsWalkIn view text.now here.now }
+    requires next { IsTightWalk view text.now next.now }
+    requires ordered { here.now.position < next.now.position }
+    requires width { width
+        ≡ cluster_width (seen_cluster view text.now here.now.position next.now.position) }
+    ensures line_end { result.0
+        ≡ is_line_end (seen_cluster view text.now here.now.position next.now.position) }
+    ensures blank { result.1
+        ≡ is_blank (seen_cluster view text.now here.now.position next.now.position) }
+{
+    if 1 < width {
+        return (false, false);
+    }
+    if view.is_given() {
+        return (is_line_end(text, here, next), is_blank(text, here, next));
+    }
+    is_alone(text, here, next, view)
+}
+
+/// Whether `\n` is all that is seen between two walks, and whether U+0020 is.
+#[inline(always)]
+fn is_alone(text: &str, here: &Walk, next: &Walk, view: View) -> (bool, bool)
+    requires here { IsWalkIn view text.now here.now }
+    requires next { IsTightWalk view text.now next.now }
+    requires ordered { here.now.position < next.now.position }
+    ensures feed { result.0
+        ≡ bytes_eq (seen_cluster view text.now here.now.position next.now.position) (10 ∷ []) }
+    ensures blank { result.1
+        ≡ bytes_eq (seen_cluster view text.now here.now.position next.now.position) (32 ∷ []) }
+{
+    let len = next.position - here.position;
+    if len <= here.run_end - here.offset && b' ' < text.as_bytes()[here.offset + len - 1] {
+        // This saves decoding most characters.
+        return (false, false);
+    }
+    let (start, first) = here.next_seen(text, view);
+    let Some(first) = first else {
+        return (false, false);
+    };
+    if start.position + 1 != next.position {
+        return (false, false);
+    }
+    (first == '\n', first == ' ')
 }
 
 /// Whether the cluster between two walks is the end of a line.

@@ -7,9 +7,9 @@ ghost use Rattle.ansi_safe.specs.Safe.{is_printable_byte};
 ghost use Rattle.ansi_columns.specs.declared.views.View.{View};
 ghost use Rattle.ansi_columns.specs.BreakStates.{break_state_of};
 ghost use Rattle.ansi_columns.specs.Columns.{cluster_width};
-ghost use Rattle.ansi_columns.specs.Views.{seen_len};
+ghost use Rattle.ansi_columns.specs.Views.{seen_len, IsTight};
 ghost use Rattle.ansi_columns.specs.Walks.{before, after, seen_before, seen_after, seen_cluster};
-ghost use Rattle.ansi_columns.specs.Walks.{IsRun, IsWalkIn, IsWalk, IsAnyWalk, IsNext, IsPastCluster, IsPastClusters};
+ghost use Rattle.ansi_columns.specs.Walks.{IsRun, IsWalkIn, IsWalk, IsAnyWalk, IsTightWalk, IsNext, IsPastCluster, IsPastClusters};
 ghost use Rattle.ansi_columns.specs.Walks.{IsSeenNext, IsPrintable, IsPrintableFront, AreClustersIn, IsPastAscii, is_seen_ascii};
 ghost use Rattle.ansi_columns.specs.Walks.{IsPastFirst, IsPastLast, IsNextRun, EndsAscii, BreaksAfterAscii, walk_at, walk_at_run};
 
@@ -49,6 +49,7 @@ impl Walk {
     pub(crate) fn start(text: &str) -> Walk
         ensures walk { IsWalk text.now result }
         ensures seen { (view : View) → IsWalkIn view text.now result }
+        ensures lined { IsTightWalk View.Lined text.now result }
         ensures position { result.position ≡ 0 }
     {
         let (offset, run_end) = first_run(text);
@@ -159,6 +160,7 @@ impl Walk {
     ) -> Option<(Walk, usize)>
         requires walk { IsWalkIn view text.now self }
         requires first { IsPastFirst view text.now self first after_first }
+        requires tight { IsTight view text.now after_first.position }
         ensures { IsSomeAnd result (λ (walk, width).
             IsPastCluster view text.now self walk width) }
     {

@@ -9,6 +9,8 @@ pub mod CodeListLemmas
 pub mod RestyledLemmas
 pub mod RestyleWalkLemmas
 pub mod TurnLemmas
+pub mod UnmarkedLemmas
+pub mod RefusedLemmas
 pub mod MarkLemmas
 pub mod EmptyLemmas
 pub mod LengthLemmas
@@ -27,8 +29,8 @@ pub mod SafeEditLemmas
 pub mod SafePutLemmas
 pub mod SafeEachLemmas
 pub mod LineEndLemmas
-pub mod AddressLemmas
 pub mod LinkWalkLemmas
 pub mod LinkRangeLemmas
+pub mod LengthEachLemmas
 pub mod SafeLinkLemmas
 pub mod LinkTurnLemmas

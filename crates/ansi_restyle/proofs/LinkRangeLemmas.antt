@@ -93,11 +93,11 @@ opened link w is opens = ap₂ (λ b c. if b then (if c then w else []) else lin
 
 -- The link at a position, by the pieces up to there.
 
-through-one_text : (link w : List ℕ) → link_through link (one_text w) ≡ link
+pub through-one_text : (link w : List ℕ) → link_through link (one_text w) ≡ link
 through-one_text link [] = refl
 through-one_text link (b ∷ w) = refl
 
-by-front : (link : List ℕ) (ps : List Piece) (i : ℕ) → state_by_marks link_after link ps i ≡ link_through link (front_pieces i ps)
+pub by-front : (link : List ℕ) (ps : List Piece) (i : ℕ) → state_by_marks link_after link ps i ≡ link_through link (front_pieces i ps)
 by-front link [] i = refl
 by-front link (Text w ∷ ps) i = elim (cases_lt i (length w)) [
   | inl last ↦
@@ -138,7 +138,7 @@ front-front link a n (p ∷ ps) = front-front (link_after link (spelling p)) a n
 pub link_at-front : (t : List ℕ) (i : ℕ) → link_at t i ≡ link_through [] (pieces_of (front i t))
 link_at-front t i = link_of-fold (marks_up_to i (marks t)) ∙ by-front [] (pieces_of t) i ∙ sym (ap (link_through []) (pieces_of-front t i))
 
-link_at-next : (t : List ℕ) (a n : ℕ) → link_through (link_at t a) (pieces_of (front n (rest a t))) ≡ link_at t (a + n)
+pub link_at-next : (t : List ℕ) (a n : ℕ) → link_through (link_at t a) (pieces_of (front n (rest a t))) ≡ link_at t (a + n)
 link_at-next t a n =
     ap₂ (λ l qs. link_through l qs) (link_at-front t a ∙ ap (link_through []) (pieces_of-front t a)) (pieces_of-front (rest a t) n ∙ ap (front_pieces n) (pieces_of-after t a))
     ∙ front-front [] a n (pieces_of t) ∙ sym (link_at-front t (a + n) ∙ ap (link_through []) (pieces_of-front t (a + n)))

@@ -1,10 +1,10 @@
 -- The ranges of the links of a text are in turn.
 use Rattle.std.proofs.Common.{◌≡◌, ℕ, ◌+◌, ◌≤◌, Bool, true, false, ◌&&◌, List, [], ◌∷◌, ◌++◌, length, map, drop, nat_lt, refl, sym, ◌∙◌, ap, subst, arith, if◌then◌else◌, append-nil, length-append}
 use Rattle.std.proofs.Math.Seq.{drop-append_seam}
-use Rattle.std.proofs.lemmas.Bool.{and_parts, and_from, leb-true, le-leb, ltb-true}
+use Rattle.std.proofs.lemmas.Bool.{leb-true, le-leb}
 use Rattle.std.proofs.lemmas.List.{drop-drop}
 use Rattle.std.specs.Str.{IsUtf8}
-use Rattle.ansi_items.specs.Pieces.{Piece, Text, Sequence, LoneEscape, ArePieces, spelling, pieces_of}
+use Rattle.ansi_items.specs.Pieces.{Piece, Text, ArePieces, spelling, pieces_of}
 use Rattle.ansi_items.specs.Plain.{plain, plain_of}
 use Rattle.ansi_items.proofs.PieceLemmas.{pieces_are, pieces_of-unique}
 use Rattle.ansi_items.proofs.Utf8Lemmas.{IsUtf8-plain}

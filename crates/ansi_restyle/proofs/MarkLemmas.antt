@@ -5,16 +5,19 @@ use Rattle.std.proofs.lemmas.List.{length-drop, drop-drop}
 use Rattle.std.proofs.lemmas.Str.{IsUtf8-drop}
 use Rattle.ansi_items.specs.Pieces.{pieces_of}
 use Rattle.ansi_items.specs.Plain.{plain}
+use Rattle.ansi_items.proofs.Utf8Lemmas.{IsUtf8-plain}
 use Rattle.ansi_style.specs.declared.state.rendition.Rendition.{Rendition}
+use Rattle.ansi_style.specs.Rendition.{plain_style}
 use Rattle.ansi_style.specs.Reading.{style_within}
 use Rattle.ansi_search.specs.Positions.{no_character_goes_on}
 use Rattle.ansi_search.specs.Matches.{match_places, first_match_from}
 use Rattle.ansi_search.proofs.PositionLemmas.{no_character_goes_on-drop, no_character_goes_on-boundary}
 use Rattle.ansi_split.specs.Parts.{without_overlaps}
 use Rattle.ansi_restyle.specs.Matches.{matches, matches_left}
-use Rattle.ansi_restyle.specs.Restyled.{front, rest, changed_pieces, restyled_from}
+use Rattle.ansi_restyle.specs.Rests.{IsAtMatch}
+use Rattle.ansi_restyle.specs.Restyled.{front, rest, changed_pieces, restyled_from, restyled}
 use Rattle.ansi_restyle.proofs.FrontLemmas.{plain-rest}
-use Rattle.ansi_restyle.proofs.MatchLemmas.{matches-after, matches-none, match_begins_good, match_ends_within, match_ends_boundary}
+use Rattle.ansi_restyle.proofs.MatchLemmas.{matches-after, matches-none, match_ends_within, match_ends_boundary}
 
 -- What is written, and what is made of the text that is left, are all. The next match is the first in that text.
 pub record IsMarkedSoFar (whole done w : List ℕ) (style : Rendition) (text p : List ℕ) (next : Option ℕ) : Type 0 where
@@ -44,9 +47,6 @@ module _ {whole done w text p : List ℕ} {style : Rendition} {next : Option ℕ
 
   plain-left : plain (rest (length p) (rest m text)) ≡ drop (m + length p) (plain text)
   plain-left = plain-rest (rest m text) (length p) ∙ ap (drop (length p)) (plain-rest text m) ∙ drop-drop (length p) m (plain text)
-
-  pub match_start : IsTrue (no_character_goes_on (plain text) m)
-  match_start = match_begins_good (plain text) p 0 m found
 
   pub match_end : IsUtf8 p → IsTrue (no_character_goes_on (plain (rest m text)) (length p))
   match_end utf8_p =
@@ -96,3 +96,28 @@ module _ {whole done w text p : List ℕ} {style : Rendition} {next : Option ℕ
 pub marked-end : {whole done w text p new : List ℕ} {style : Rendition} {next : Option ℕ} → IsMarkedSoFar whole done w style text p next → next ≡ None → new ≡ done ++ text → new ≡ whole
 marked-end {done = done} {w = w} {text = text} {p = p} {style = style} way none wrote =
     wrote ∙ ap (λ l. done ++ restyled_from w style 0 text l) (sym (matches-none (plain text) p (sym way.is_next ∙ none))) ∙ way.so_far
+
+-- A text in two at the first match.
+module _ {whole done w text p f r : List ℕ} {style there : Rendition} (way : IsMarkedSoFar whole done w style text p (first_match_from (plain text) p 0)) (at : IsAtMatch text p f r style there) where
+  -- no character goes on where the match ends
+  pub at_match_end : IsUtf8 p → IsTrue (no_character_goes_on (plain r) (length p))
+  at_match_end utf8_p = subst (λ u. IsTrue (no_character_goes_on (plain u) (length p))) (sym at.divided.rest_is) (match_end way at.place at.first utf8_p)
+
+  -- less is left
+  pub at_match_less : {last : List ℕ} → 0 < length p → last ≡ rest (length p) r → length (plain last) < length (plain text)
+  at_match_less {last} filled is_last = less_left way at.place at.first filled (is_last ∙ ap (rest (length p)) at.divided.rest_is)
+
+  -- over the match
+  pub at_match_step : {done_1 done_2 last : List ℕ} {end : Rendition} → 0 < length p → IsUtf8 p → done_1 ≡ done ++ f → done_2 ≡ done_1 ++ changed_pieces w there (pieces_of (front (length p) r))
+      → end ≡ style_within there r (length p) → last ≡ rest (length p) r → IsMarkedSoFar whole done_2 w end last p (first_match_from (plain last) p 0)
+  at_match_step {done_1} {done_2} {last} {end} filled utf8_p wrote_front wrote is_end is_last =
+      let d = length p in
+      let changed = changed_pieces w there (pieces_of (front d r)) in
+      marked-step way at.place at.first filled utf8_p
+      (wrote ∙ ap (λ u. u ++ changed) wrote_front ∙ append_assoc done f changed
+      ∙ ap (λ v. done ++ v) (ap₂ (λ a b. a ++ b) at.divided.front_is (ap₂ (λ s u. changed_pieces w s (pieces_of (front d u))) at.style at.divided.rest_is)))
+      (is_end ∙ ap₂ (λ s u. style_within s u d) at.style at.divided.rest_is) (is_last ∙ ap (rest d) at.divided.rest_is) refl
+
+-- a walk begins
+pub marked-begin : (done w text p : List ℕ) → IsUtf8 text → IsMarkedSoFar (done ++ restyled text w (matches (plain text) p)) done w plain_style text p (first_match_from (plain text) p 0)
+marked-begin done w text p utf8 = record { so_far = refl; utf8 = IsUtf8-plain text utf8; is_next = refl }

@@ -1,14 +1,17 @@
 -- What the headlines of a removal and of a replacement say together.
-use Rattle.std.proofs.Common.{◌≡◌, ℕ, ◌+◌, ◌-◌, ◌<◌, ◌≤◌, List, [], ◌++◌, length, take, drop, sym, ◌∙◌, ap, ap₂, arith, append-nil, append_assoc, length-append, slice_range, get_or}
+use Rattle.std.proofs.Common.{◌≡◌, ◌∷◌, ℕ, ◌+◌, ◌-◌, ◌<◌, ◌≤◌, List, [], ◌++◌, length, take, drop, sym, ◌∙◌, ap, ap₂, arith, append-nil, append_assoc, length-append, slice_range, get_or}
 use Rattle.std.proofs.lemmas.List.{take-append-drop, drop-drop, length-take-le, get_or-take, get_or_append_left}
 use Rattle.std.proofs.lemmas.List.FromFn.{get_or-map-range_with_len}
 use Rattle.ansi_items.specs.Plain.{plain}
 use Rattle.ansi_style.specs.Rendition.{plain_style, known}
 use Rattle.ansi_style.specs.Reading.{styled_from}
 use Rattle.ansi_style.specs.Styled.{StyledByte, styled, style_at}
+use Rattle.ansi_safe.specs.Links.{link_at}
 use Rattle.ansi_style.proofs.SpelledLemmas.{styled_from-alike}
+use Rattle.ansi_restyle.specs.Linked.{links_in, links_from}
 use Rattle.ansi_restyle.specs.Removed.{IsRemoved}
 use Rattle.ansi_restyle.specs.Replaced.{IsReplaced}
+use Rattle.ansi_restyle.specs.ReplacedEach.{IsReplacedEach}
 use Rattle.ansi_restyle.proofs.FrontLemmas.{length-styled_from}
 use Rattle.ansi_restyle.proofs.PlaceLemmas.{take_seam, drop_seam}
 
@@ -52,3 +55,16 @@ inserted-removed t w u v x a b some within removed inserted replaced =
     (ap₂ (λ y z. y ++ z) (ap (take a) is ∙ take_seam a (take a s) (drop b s) size) (styled_from-alike (style_at u i) (style_at t i) w before))
     (ap (drop a) is ∙ drop_seam a (take a s) (drop b s) size)
     ∙ sym replaced.styled_bytes
+
+-- the elements before a position are a slice from the first one on
+from_front : {A : Type 0} (a : ℕ) (xs : List A) → slice_range xs 0 a ≡ take a xs
+from_front a xs = (let same : a - 0 ≡ a = omega arith in ap (λ k. take k xs) same)
+
+pub one_replaced : (t w u v : List ℕ) (a b : ℕ) → IsReplacedEach t (record { range = (a, b); text = w } ∷ []) u → IsReplaced t a b w v → styled u ≡ styled v
+one_replaced t w u v a b each alone = each.styled_bytes ∙ ap (λ x. x ++ styled_from (style_at t (a - 1)) w ++ drop b (styled t)) (from_front a (styled t)) ∙ sym alone.styled_bytes
+
+pub plain-one_replaced : (t w u v : List ℕ) (a b : ℕ) → IsReplacedEach t (record { range = (a, b); text = w } ∷ []) u → IsReplaced t a b w v → plain u ≡ plain v
+plain-one_replaced t w u v a b each alone = each.plain_text ∙ ap (λ x. x ++ plain w ++ drop b (plain t)) (from_front a (plain t)) ∙ sym alone.plain_text
+
+pub links-one_replaced : (t w u v : List ℕ) (a b : ℕ) → IsReplacedEach t (record { range = (a, b); text = w } ∷ []) u → IsReplaced t a b w v → links_in u ≡ links_in v
+links-one_replaced t w u v a b each alone = each.links ∙ ap (λ x. x ++ links_from (link_at t (a - 1)) w ++ drop b (links_in t)) (from_front a (links_in t)) ∙ sym alone.links

@@ -38,7 +38,7 @@ use Rattle.ansi_restyle.specs.Ranges.{are_in_turn}
 use Rattle.ansi_restyle.specs.Removed.{sequences}
 use Rattle.ansi_restyle.specs.Replaced.{place_of, place_after, put}
 use Rattle.ansi_restyle.specs.ReplacedEach.{Swap, swaps_of, ranges_of, are_whole, swap_nothing, with_each, without_front, replaced_from, replaced_each, IsReplacedEach}
-use Rattle.ansi_restyle.specs.Replacing.{made_of_left}
+use Rattle.ansi_restyle.specs.Replacing.{made_of_left, AreUtf8}
 use Rattle.ansi_restyle.specs.declared.replace_each.Replacement.{Replacement}
 use Rattle.ansi_restyle.specs.declared.replace_each.Replacing.{Replacing}
 use Rattle.ansi_restyle.specs.Restyled.{front, rest}
@@ -554,6 +554,17 @@ module _ {x goal out : List ℕ} {s : Replacing} where
           turn = subst (λ j. are_in_turn x j (ranges_of es) ≡ true) sum first.later;
           good = ap (no_character_goes_on x) (sym sum) ∙ first.good_end;
         }
+
+-- The texts that are written are UTF-8: if those that are left are, all are.
+
+abbrev pub MakesUtf8 : List Swap → List Swap → Type 0
+MakesUtf8 left all = AreUtf8 left → AreUtf8 all
+
+pub utf8-step : (all : List Swap) {left es : List Swap} {e : Swap} → MakesUtf8 left all → left ≡ e ∷ es → IsUtf8 e.text → MakesUtf8 es all
+utf8-step all so_far is here = λ later. so_far (subst AreUtf8 (sym is) (here, later))
+
+pub utf8-end : (all : List Swap) {left : List Swap} → MakesUtf8 left all → left ≡ [] → AreUtf8 all
+utf8-end all so_far none = so_far (subst AreUtf8 (sym none) tt)
 
 -- One step.
 

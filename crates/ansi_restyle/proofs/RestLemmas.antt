@@ -12,7 +12,7 @@ use Rattle.ansi_search.specs.Positions.{no_character_goes_on}
 use Rattle.ansi_search.proofs.OffsetLemmas.{bytes_before-last}
 use Rattle.ansi_search.proofs.PositionLemmas.{no_character_goes_on-append}
 use Rattle.ansi_split.proofs.AfterLemmas.{is_cut_after}
-use Rattle.ansi_split.proofs.RestLemmas.{style-run}
+use Rattle.ansi_split.proofs.RestLemmas.{style-bare, no_escape-take}
 
 bytes_before-after_text : (n : ℕ) (w : List ℕ) (ps : List Piece) → n < length w → bytes_before n (after_text w ps) ≡ n
 bytes_before-after_text n w (Text v ∷ ps) inside = bytes_before-last n (w ++ v) ps (omega (arith, length-append w v))
@@ -43,7 +43,7 @@ good_in_run t run n within none inside =
 -- nothing in the run changes the style
 pub style_in_run : (s : Rendition) (t : List ℕ) (run n : ℕ) → run ≤ length t → IsFalse (has_escape (take run t)) → n < run → s ≡ style_within s t n
 style_in_run s t run n within none inside =
-    style-run s t n run (omega arith) none ∙ ap (after_marks s) (is_cut_after t n n (offset_in_run t run n within none inside)).marks_front
+    sym (style-bare s (take n t) (no_escape-take t n run (omega (arith, inside)) none)) ∙ ap (after_marks s) (is_cut_after t n n (offset_in_run t run n within none inside)).marks_front
 
 pub if_some : {A : Type 0} {X : Type 0} (o : Option A) → X → IfSome o (λ _. X)
 if_some (Some a) x = x

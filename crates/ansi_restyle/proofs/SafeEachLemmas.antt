@@ -26,7 +26,8 @@ use Rattle.ansi_restyle.specs.Matches.{matches}
 use Rattle.ansi_restyle.specs.Ranges.{are_in_turn, parts_line_end, begin_outside_line_ends}
 use Rattle.ansi_restyle.specs.Replaced.{place_of, place_after}
 use Rattle.ansi_restyle.specs.ReplacedAll.{replaced_all}
-use Rattle.ansi_restyle.specs.ReplacedEach.{Swap, swaps_with, ranges_of, without_front, replaced_from, replaced_each}
+use Rattle.ansi_restyle.specs.ReplacedEach.{Swap, swaps_with, ranges_of, are_safe, without_front, replaced_from, replaced_each}
+use Rattle.ansi_restyle.specs.Replacing.{AreUtf8}
 use Rattle.ansi_restyle.specs.Restyled.{rest}
 use Rattle.ansi_restyle.proofs.FrontLemmas.{plain-rest}
 use Rattle.ansi_restyle.proofs.LinkedLemmas.{after-pieces}
@@ -48,7 +49,7 @@ goes_on-take z d m fits good = elim (cases_lt m d) [
   | inr past ↦ no_character_goes_on-past (take d z) m (omega (arith, length-take d z, past))
 ]
 
-place_after-some : (y : List ℕ) (d : ℕ) → 0 < d → place_after d y ≡ place_of d y
+pub place_after-some : (y : List ℕ) (d : ℕ) → 0 < d → place_after d y ≡ place_of d y
 place_after-some y d some =
     let later : (d == 0) ≡ false = grind (arith, nat_tests) in
     ap (λ b. if b then 0 else offset_of y (d - 1) + 1) later ∙ sym (place_of-later y d some)
@@ -83,6 +84,12 @@ module _ (links : Links) where
   good-with : (w : List ℕ) (rs : List (ℕ × ℕ)) → AreGood links (pieces_of w) → AreGoodSwaps (swaps_with w rs)
   good-with w [] good = tt
   good-with w (r ∷ rs) good = (good, good-with w rs good)
+
+  pub good_swaps : (es : List Swap) → AreUtf8 es → are_safe links es ≡ true → AreGoodSwaps es
+  good_swaps [] utf8 safe = tt
+  good_swaps (e ∷ es) utf8 safe =
+      let both = and_parts (is_safe links e.text) (are_safe links es) safe in
+      (safe_good links e.text (pieces_of e.text) (pieces_are e.text) utf8.0 both.0, good_swaps es utf8.1 both.1)
 
   module _ (x : List ℕ) where
     -- what is left after n plain bytes, m of which are replaced

@@ -28,7 +28,7 @@ use Rattle.ansi_safe.specs.Safe.{keeps_links, is_clean_link, may_stay, is_safe}
 use Rattle.ansi_safe.proofs.LinkLemmas.{link_through, is_link-sgr}
 use Rattle.ansi_safe.proofs.SafeLemmas.{IsGood, AreGood, good_are_safe}
 use Rattle.ansi_restyle.specs.Ranges.{are_in_turn, parts_line_end}
-use Rattle.ansi_restyle.specs.Restyled.{front, rest}
+use Rattle.ansi_restyle.specs.Restyled.{rest}
 use Rattle.ansi_restyle.specs.Replaced.{place_of, link_back, put, replaced}
 use Rattle.ansi_restyle.proofs.FrontLemmas.{front_pieces, pieces_of-front, piece_before}
 use Rattle.ansi_restyle.proofs.RangeLemmas.{are_first}
@@ -42,30 +42,30 @@ use Rattle.ansi_restyle.proofs.SafeEditLemmas.{front_marks_good, rest_good, fron
 
 -- The pieces up to the place of a position past the front, which ends right after the plain byte before it, and those from there on.
 
-abbrev up_to : ℕ → List Piece → List Piece
+abbrev pub up_to : ℕ → List Piece → List Piece
 up_to a [] = []
 up_to a (Text w ∷ ps) = if nat_lt (length w) a then Text w ∷ up_to (a - length w) ps else one_text (take a w)
 up_to a (p ∷ ps) = p ∷ up_to a ps
 
-up_to-later : (a : ℕ) (w : List ℕ) (ps : List Piece) → length w < a → up_to a (Text w ∷ ps) ≡ Text w ∷ up_to (a - length w) ps
+pub up_to-later : (a : ℕ) (w : List ℕ) (ps : List Piece) → length w < a → up_to a (Text w ∷ ps) ≡ Text w ∷ up_to (a - length w) ps
 up_to-later a w ps later = ap (λ b. if b then Text w ∷ up_to (a - length w) ps else one_text (take a w)) (lt-ltb (length w) a later)
 
-up_to-last : (a : ℕ) (w : List ℕ) (ps : List Piece) → a ≤ length w → up_to a (Text w ∷ ps) ≡ one_text (take a w)
+pub up_to-last : (a : ℕ) (w : List ℕ) (ps : List Piece) → a ≤ length w → up_to a (Text w ∷ ps) ≡ one_text (take a w)
 up_to-last a w ps last = ap (λ b. if b then Text w ∷ up_to (a - length w) ps else one_text (take a w)) (le-ltb (length w) a last)
 
-abbrev from : ℕ → List Piece → List Piece
+abbrev pub from : ℕ → List Piece → List Piece
 from a [] = []
 from a (Text w ∷ ps) = if nat_lt (length w) a then from (a - length w) ps else (if nat_lt a (length w) then Text (drop a w) ∷ ps else ps)
 from a (p ∷ ps) = from a ps
 
-from-later : (a : ℕ) (w : List ℕ) (ps : List Piece) → length w < a → from a (Text w ∷ ps) ≡ from (a - length w) ps
+pub from-later : (a : ℕ) (w : List ℕ) (ps : List Piece) → length w < a → from a (Text w ∷ ps) ≡ from (a - length w) ps
 from-later a w ps later = ap (λ b. if b then from (a - length w) ps else (if nat_lt a (length w) then Text (drop a w) ∷ ps else ps)) (lt-ltb (length w) a later)
 
-from-inside : (a : ℕ) (w : List ℕ) (ps : List Piece) → a < length w → from a (Text w ∷ ps) ≡ Text (drop a w) ∷ ps
+pub from-inside : (a : ℕ) (w : List ℕ) (ps : List Piece) → a < length w → from a (Text w ∷ ps) ≡ Text (drop a w) ∷ ps
 from-inside a w ps inside =
     ap₂ (λ b d. if b then from (a - length w) ps else (if d then Text (drop a w) ∷ ps else ps)) (le-ltb (length w) a (omega (arith, inside))) (lt-ltb a (length w) inside)
 
-from-end : (a : ℕ) (w : List ℕ) (ps : List Piece) → a ≡ length w → from a (Text w ∷ ps) ≡ ps
+pub from-end : (a : ℕ) (w : List ℕ) (ps : List Piece) → a ≡ length w → from a (Text w ∷ ps) ≡ ps
 from-end a w ps end =
     ap₂ (λ b d. if b then from (a - length w) ps else (if d then Text (drop a w) ∷ ps else ps)) (le-ltb (length w) a (omega (arith, end))) (le-ltb a (length w) (omega (arith, end)))
 
@@ -117,6 +117,16 @@ from_are a t (Text w ∷ ps) some within are = elim (cases_lt (length w) a) [
 from_are a t (p ∷ ps) some within are =
     subst (λ k. ArePieces (drop k t) (from a ps)) (sym (place_in-mark (length (spelling p)) (bytes_before (a - 1) ps)))
     (ArePieces-drop t p are.0 (place_in a ps) (from a ps) are.1 (from_are a are.0 ps some within are.3))
+
+pub up_to_place : (t : List ℕ) (a : ℕ) → 0 < a → a ≤ length (plain t) → pieces_of (take (place_of a t) t) ≡ up_to a (pieces_of t)
+up_to_place t a some within =
+    ap (λ k. pieces_of (take k t)) (place_of-later t a some)
+    ∙ sym (pieces_of-unique (take (place_in a (pieces_of t)) t) (up_to a (pieces_of t)) (up_to_are a t (pieces_of t) some within (pieces_are t)))
+
+pub from_place : (t : List ℕ) (a : ℕ) → 0 < a → a ≤ length (plain t) → pieces_of (drop (place_of a t) t) ≡ from a (pieces_of t)
+from_place t a some within =
+    ap (λ k. pieces_of (drop k t)) (place_of-later t a some)
+    ∙ sym (pieces_of-unique (drop (place_in a (pieces_of t)) t) (from a (pieces_of t)) (from_are a t (pieces_of t) some within (pieces_are t)))
 
 -- The last link that good pieces open is one of them, if links are kept.
 
@@ -253,10 +263,7 @@ module _ (links : Links) where
 
   pub up_to_place_good : (t : List ℕ) (a : ℕ) → AreGood links (pieces_of t) → a ≤ length (plain t) → no_character_goes_on (plain t) a ≡ true → parts_line_end (plain t) a ≡ false → AreGood links (pieces_of (take (place_of a t) t))
   up_to_place_good t a good within here apart = elim (cases_lt 0 a) [
-    | inl some ↦ (
-        let u = take (place_in a (pieces_of t)) t in
-        let are : up_to a (pieces_of t) ≡ pieces_of u = pieces_of-unique u (up_to a (pieces_of t)) (up_to_are a t (pieces_of t) some within (pieces_are t)) in
-        subst (λ k. AreGood links (pieces_of (take k t))) (sym (place_of-later t a some)) (subst (AreGood links) are (up_to_good a (pieces_of t) good here apart)))
+    | inl some ↦ subst (AreGood links) (sym (up_to_place t a some within)) (up_to_good a (pieces_of t) good here apart)
     | inr none ↦ (
         let zero_is : 0 ≡ a = omega (arith, none) in
         subst (λ n. AreGood links (pieces_of (take (place_of n t) t))) zero_is
@@ -265,10 +272,7 @@ module _ (links : Links) where
 
   pub from_place_good : (t : List ℕ) (a : ℕ) → AreGood links (pieces_of t) → a ≤ length (plain t) → no_character_goes_on (plain t) a ≡ true → AreGood links (pieces_of (drop (place_of a t) t))
   from_place_good t a good within here = elim (cases_lt 0 a) [
-    | inl some ↦ (
-        let u = drop (place_in a (pieces_of t)) t in
-        let are : from a (pieces_of t) ≡ pieces_of u = pieces_of-unique u (from a (pieces_of t)) (from_are a t (pieces_of t) some within (pieces_are t)) in
-        subst (λ k. AreGood links (pieces_of (drop k t))) (sym (place_of-later t a some)) (subst (AreGood links) are (from_good a (pieces_of t) good here)))
+    | inl some ↦ subst (AreGood links) (sym (from_place t a some within)) (from_good a (pieces_of t) good here)
     | inr none ↦ (
         let zero_is : 0 ≡ a = omega (arith, none) in
         subst (λ n. AreGood links (pieces_of (drop (place_of n t) t))) zero_is (rest_good links t 0 good (ap (no_character_goes_on (plain t)) zero_is ∙ here)))

@@ -5,7 +5,9 @@ use Rattle.ansi_items.specs.Plain.{plain, marks, is_whole}
 use Rattle.ansi_style.specs.declared.state.rendition.Rendition.{Rendition}
 use Rattle.ansi_style.specs.Reading.{style_after_from, styled_from}
 use Rattle.ansi_style.specs.Styled.{styled, style_at, residue}
+use Rattle.ansi_safe.specs.declared.policy.Links.{Links}
 use Rattle.ansi_safe.specs.Links.{link_of, link_at, link_after_all}
+use Rattle.ansi_safe.specs.Safe.{is_safe}
 use Rattle.ansi_restyle.specs.Linked.{links_in, links_from}
 use Rattle.ansi_restyle.specs.Restyled.{front, rest}
 use Rattle.ansi_restyle.specs.Removed.{sequences}
@@ -31,6 +33,10 @@ ranges_of es = map (λ (e : Swap). e.range) es
 -- each of the texts is whole
 abbrev pub are_whole : List Swap → Bool
 are_whole es = list_all (λ (e : Swap). is_whole e.text) es
+
+-- each of the texts is safe
+abbrev pub are_safe : Links → List Swap → Bool
+are_safe links es = list_all (λ (e : Swap). is_safe links e.text) es
 
 -- each of the ranges is empty, and so is the text in its place
 abbrev pub swap_nothing : List Swap → Bool

@@ -1,6 +1,6 @@
 //! The calls on any text.
 ghost use Rattle.std.specs.Prelude.{◌≡◌, ◌≤◌, ◌+◌, ◌-◌, ◌*◌, ◌↔◌, ◌⊎◌, ◌&&◌, ◌∷◌, [], Some, filter};
-ghost use Rattle.std.specs.Prelude.{length, IfOk, IfSome, IsFalse, IsNone, IsOk, IsTrue};
+ghost use Rattle.std.specs.Prelude.{ℕ, length, sum_by, IfOk, IfSome, IsFalse, IsNone, IsOk, IsTrue};
 ghost use Rattle.std.specs.Cow.{cow_str_bytes, IsBorrowedStr};
 ghost use Rattle.ansi_items.specs.Pieces.{pieces_of};
 ghost use Rattle.ansi_items.specs.Plain.{plain, is_text, is_whole};
@@ -19,7 +19,7 @@ ghost use Rattle.ansi_restyle.specs.Ranges.{keep_line_ends, parts_line_end};
 ghost use Rattle.ansi_restyle.specs.Removed.{removed, IsRemoved};
 ghost use Rattle.ansi_restyle.specs.Replaced.{replaced, IsReplaced};
 ghost use Rattle.ansi_restyle.specs.ReplacedAll.{replaced_all, IsReplacedAll};
-ghost use Rattle.ansi_restyle.specs.ReplacedEach.{swaps_of, ranges_of, are_whole, swap_nothing};
+ghost use Rattle.ansi_restyle.specs.ReplacedEach.{Swap, swaps_of, ranges_of, are_whole, are_safe, swap_nothing};
 ghost use Rattle.ansi_restyle.specs.ReplacedEach.{replaced_each, IsReplacedEach};
 ghost use Rattle.ansi_restyle.specs.Restyled.{is_change, restyled, IsRestyled};
 
@@ -95,6 +95,7 @@ pub trait AnsiRestyle: AnsiStr {
     /// A range is a pair of positions, which count bytes of the plain text. The ranges have to be in
     /// order and mustn't overlap. It is `None` exactly if a range isn't between two character
     /// boundaries, or begins before the one before it ends, or if the codes have another byte.
+    /// `refused_range` says which range.
     ///
     /// If the text is safe (`ansi_is_safe`), so is the result, unless a range begins or ends between a
     /// carriage return and a line feed.
@@ -329,8 +330,10 @@ pub trait AnsiRestyle: AnsiStr {
     /// carriage return and a line feed. None does if the pattern begins with another character than a
     /// line feed (`laws::matches_begin_outside_line_ends`).
     ///
-    /// It is a borrow if nothing matches. A borrow doesn't allocate. Otherwise it is owned. `Err`
-    /// means out of memory. Takes time in proportion to the text, the pattern and the result. (Own.)
+    /// It is a borrow if nothing matches. A borrow doesn't allocate. Otherwise it is owned. For each
+    /// match, it is longer by at most the new text, 258 bytes and the sequence that opened the link
+    /// there. `Err` means out of memory. Takes time in proportion to the text, the pattern and the
+    /// result. (Own.)
     ///
     /// ```
     /// let replaced = "\x1b[32mone\x1b[39m, one".ansi_replace_all(rt.alloc(), "one", "two");
@@ -349,6 +352,10 @@ pub trait AnsiRestyle: AnsiStr {
             cow_str_bytes c ≡ replaced_all (Self.text self.now) pat.now with.now) }
         ensures borrowed { IfOk result (λ c.
             IsBorrowedStr c ↔ (matches (plain (Self.text self.now)) pat.now ≡ [])) }
+        ensures len { IfOk result (λ c. length (cow_str_bytes c)
+            ≤ length (Self.text self.now) + sum_by (λ (r : ℕ × ℕ). length with.now
+            + length (link_at (Self.text self.now) (r.0 - 1)) + 258)
+            (matches (plain (Self.text self.now)) pat.now)) }
         ensures safe { (links : Links) →
             IsTrue (is_safe links (Self.text self.now) && is_safe links with.now) →
             IsTrue (begin_outside_line_ends (plain (Self.text self.now))
@@ -369,11 +376,15 @@ pub trait AnsiRestyle: AnsiStr {
     ///
     /// A range is a pair of positions, which count bytes of the plain text of this text. The ranges
     /// have to be in order and mustn't overlap. It is `None` exactly if `ansi_restyle` would refuse
-    /// them. Texts at the same position come in the order of their ranges.
+    /// them. `refused_range` says which. Texts at the same position come in the order of their ranges.
+    ///
+    /// If all texts are safe (`ansi_is_safe`), so is the result, unless a range begins between a
+    /// carriage return and a line feed.
     ///
     /// It is a borrow if each range is empty, and so is the text in its place. A borrow and a `None`
-    /// don't allocate. Otherwise it is owned. `Err` means out of memory. Takes time in proportion to
-    /// the text, the ranges and the result. (Own.)
+    /// don't allocate. Otherwise it is owned. For each range, it is longer by at most the new text,
+    /// 258 bytes and the sequence that opened the link there. `Err` means out of memory. Takes time in
+    /// proportion to the text, the ranges and the result. (Own.)
     ///
     /// ```
     /// let edits = [
@@ -403,6 +414,14 @@ pub trait AnsiRestyle: AnsiStr {
             cow_str_bytes c ≡ replaced_each (Self.text self.now) (swaps_of edits.now))) }
         ensures borrowed { IfOk result (λ o. IfSome o (λ c.
             IsBorrowedStr c ↔ IsTrue (swap_nothing (swaps_of edits.now)))) }
+        ensures len { IfOk result (λ o. IfSome o (λ c. length (cow_str_bytes c)
+            ≤ length (Self.text self.now) + sum_by (λ (e : Swap). length e.text
+            + length (link_at (Self.text self.now) (e.range.0 - 1)) + 258) (swaps_of edits.now))) }
+        ensures safe { (links : Links) →
+            IsTrue (is_safe links (Self.text self.now) && are_safe links (swaps_of edits.now)) →
+            IsTrue (begin_outside_line_ends (plain (Self.text self.now))
+            (ranges_of (swaps_of edits.now))) → IfOk result (λ o. IfSome o (λ c.
+            IsTrue (is_safe links (cow_str_bytes c)))) }
         ensures takes_no_memory { IsTrue (swap_nothing (swaps_of edits.now)) ⊎ IsFalse
             (are_in_turn (plain (Self.text self.now)) 0 (ranges_of (swaps_of edits.now))) →
             IsOk result }

@@ -10,11 +10,13 @@ ghost use Rattle.ansi_style.specs.Rendition.{known};
 ghost use Rattle.ansi_style.specs.Reading.{style_after_from, styled_from};
 ghost use Rattle.ansi_style.specs.Styled.{StyledByte, styled, style_at};
 ghost use Rattle.ansi_style.specs.Written.{written};
+ghost use Rattle.ansi_restyle.specs.Linked.{links_in};
 ghost use Rattle.ansi_restyle.specs.Links.{LinkedRange, links};
 ghost use Rattle.ansi_restyle.specs.Matches.{matches};
 ghost use Rattle.ansi_restyle.specs.Ranges.{are_empty, are_in_turn, begin_outside_line_ends};
 ghost use Rattle.ansi_restyle.specs.Removed.{IsRemoved};
 ghost use Rattle.ansi_restyle.specs.Replaced.{IsReplaced};
+ghost use Rattle.ansi_restyle.specs.ReplacedEach.{IsReplacedEach};
 ghost use Rattle.ansi_restyle.specs.Restyled.{is_change, changed_byte, changed_within};
 ghost use Rattle.ansi_restyle.specs.Restyled.{restyled, IsRestyled, other_marks};
 
@@ -65,6 +67,19 @@ pub fn empty_replacements_remove()
 pub fn insertions_replace_what_was_removed()
     ensures { (t w u v x : List ℕ) (a b : ℕ) → 0 < a → a ≤ length (plain t) → IsRemoved t a b u →
         IsReplaced u a a w v → IsReplaced t a b w x → styled v ≡ styled x }
+{}
+
+/// Where one range alone is replaced, both calls show the same.
+pub fn single_replacements_replace()
+    ensures styled { (t w u v : List ℕ) (a b : ℕ) →
+        IsReplacedEach t (record { range = (a, b); text = w } ∷ []) u → IsReplaced t a b w v →
+        styled u ≡ styled v }
+    ensures plain { (t w u v : List ℕ) (a b : ℕ) →
+        IsReplacedEach t (record { range = (a, b); text = w } ∷ []) u → IsReplaced t a b w v →
+        plain u ≡ plain v }
+    ensures links { (t w u v : List ℕ) (a b : ℕ) →
+        IsReplacedEach t (record { range = (a, b); text = w } ∷ []) u → IsReplaced t a b w v →
+        links_in u ≡ links_in v }
 {}
 
 /// The ranges of the links of a text are in turn, so `ansi_restyle` takes them.

@@ -17,5 +17,6 @@ pub mod replace_each;
 mod rest;
 pub mod restyle;
 pub mod styles;
+mod unmarked;
 
 pub use calls::AnsiRestyle;

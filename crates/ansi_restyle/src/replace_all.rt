@@ -1,8 +1,10 @@
 //! A text with another text in place of each match of a pattern.
-ghost use Rattle.std.specs.Prelude.{◌≡◌, ◌++◌, ◌↔◌, ◌&&◌, [], IfOk, IsOk, IsTrue, OnOk, string_bytes};
+ghost use Rattle.std.specs.Prelude.{◌≡◌, ℕ, ◌+◌, ◌-◌, ◌≤◌, ◌++◌, ◌↔◌, ◌&&◌, [], length, sum_by};
+ghost use Rattle.std.specs.Prelude.{IfOk, IsOk, IsTrue, OnOk, string_bytes};
 ghost use Rattle.std.specs.Cow.{cow_str_bytes, IsBorrowedStr};
 ghost use Rattle.ansi_items.specs.Plain.{plain, is_whole};
 ghost use Rattle.ansi_safe.specs.declared.policy.Links.{Links};
+ghost use Rattle.ansi_safe.specs.Links.{link_at};
 ghost use Rattle.ansi_safe.specs.Safe.{is_safe};
 ghost use Rattle.ansi_restyle.specs.Matches.{matches};
 ghost use Rattle.ansi_restyle.specs.Ranges.{begin_outside_line_ends};
@@ -33,6 +35,9 @@ pub fn replace_all_in<'t, A: Allocator>(
         cow_str_bytes c ≡ replaced_all text.now pat.now with.now) }
     ensures borrowed { IfOk result (λ c.
         IsBorrowedStr c ↔ (matches (plain text.now) pat.now ≡ [])) }
+    ensures len { IfOk result (λ c. length (cow_str_bytes c) ≤ length text.now
+        + sum_by (λ (r : ℕ × ℕ). length with.now + length (link_at text.now (r.0 - 1)) + 258)
+        (matches (plain text.now) pat.now)) }
     ensures safe { (links : Links) → IsTrue (is_safe links text.now && is_safe links with.now) →
         IsTrue (begin_outside_line_ends (plain text.now) (matches (plain text.now) pat.now)) →
         IfOk result (λ c. IsTrue (is_safe links (cow_str_bytes c))) }

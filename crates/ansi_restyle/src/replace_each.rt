@@ -1,13 +1,17 @@
 //! A text with another text in place of each of many ranges.
 ghost use Rattle.std.specs.Prelude.{◌≡◌, ◌+◌, ◌-◌, ◌++◌, ◌↔◌, ◌⊎◌, ◌≤◌, ◌&&◌, ◌==◌, ◌∷◌, drop, length, List};
-ghost use Rattle.std.specs.Prelude.{IfOk, IfSome, IsFalse, IsNone, IsOk, IsTrue, OnOk, string_bytes};
+ghost use Rattle.std.specs.Prelude.{IfOk, IfSome, IsFalse, IsNone, IsOk, IsTrue, OnOk, string_bytes, sum_by};
 ghost use Rattle.std.specs.Cow.{cow_str_bytes, IsBorrowedStr};
+ghost use Rattle.std.specs.Str.{IsUtf8};
 ghost use Rattle.ansi_items.specs.Plain.{plain, is_whole};
+ghost use Rattle.ansi_safe.specs.declared.policy.Links.{Links};
+ghost use Rattle.ansi_safe.specs.Links.{link_at};
+ghost use Rattle.ansi_safe.specs.Safe.{is_safe};
 ghost use Rattle.ansi_search.specs.Positions.{is_char_boundary, no_character_goes_on};
-ghost use Rattle.ansi_restyle.specs.Ranges.{are_in_turn};
-ghost use Rattle.ansi_restyle.specs.ReplacedEach.{Swap, swaps_of, ranges_of, are_whole, swap_nothing};
+ghost use Rattle.ansi_restyle.specs.Ranges.{are_in_turn, begin_outside_line_ends};
+ghost use Rattle.ansi_restyle.specs.ReplacedEach.{Swap, swaps_of, ranges_of, are_whole, are_safe, swap_nothing};
 ghost use Rattle.ansi_restyle.specs.ReplacedEach.{replaced_each, IsReplacedEach};
-ghost use Rattle.ansi_restyle.specs.Replacing.{made_of_left};
+ghost use Rattle.ansi_restyle.specs.Replacing.{made_of_left, AreUtf8};
 
 use crate::replace::{place_of, push_put, push_without_front};
 use crate::rest::Rest;
@@ -56,6 +60,13 @@ pub fn replace_each_in<'t, A: Allocator>(
         cow_str_bytes c ≡ replaced_each text.now (swaps_of edits.now))) }
     ensures borrowed { IfOk result (λ o. IfSome o (λ c.
         IsBorrowedStr c ↔ IsTrue (swap_nothing (swaps_of edits.now)))) }
+    ensures len { IfOk result (λ o. IfSome o (λ c. length (cow_str_bytes c)
+        ≤ length text.now + sum_by (λ (e : Swap). length e.text
+        + length (link_at text.now (e.range.0 - 1)) + 258) (swaps_of edits.now))) }
+    ensures safe { (links : Links) →
+        IsTrue (is_safe links text.now && are_safe links (swaps_of edits.now)) →
+        IsTrue (begin_outside_line_ends (plain text.now) (ranges_of (swaps_of edits.now))) →
+        IfOk result (λ o. IfSome o (λ c. IsTrue (is_safe links (cow_str_bytes c)))) }
     ensures takes_no_memory { IsTrue (swap_nothing (swaps_of edits.now))
         ⊎ IsFalse (are_in_turn (plain text.now) 0 (ranges_of (swaps_of edits.now))) →
         IsOk result }
@@ -114,8 +125,9 @@ fn push_replaced_each<A: Allocator>(
     edits: &[Replacement<'_>],
 ) -> Result<(), AllocError>
     requires { IsTrue (are_in_turn (plain text.now) 0 (ranges_of (swaps_of edits.now))) }
-    ensures { OnOk result (string_bytes out.new
+    ensures bytes { OnOk result (string_bytes out.new
         ≡ string_bytes out.old ++ replaced_each text.now (swaps_of edits.now)) }
+    ensures utf8 { OnOk result (AreUtf8 (swaps_of edits.now)) }
 {
     let mut replacing = Replacing::begin(out, text)?;
     for edit in edits {
@@ -181,6 +193,7 @@ impl<'t> Replacing<'t> {
             ≡ drop (range.0 - self.old.place) (plain self.old.rest.text.now)) }
         ensures place { OnOk result (self.new.place ≡ range.0) }
         ensures len { OnOk result (self.new.len ≡ range.1 - range.0) }
+        ensures utf8 { IsUtf8 with.now }
     {
         let (before, after) = self.rest.split_at_place(range.0 - self.place);
         push_without_front(out, before, self.len)?;

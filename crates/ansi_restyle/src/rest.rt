@@ -20,7 +20,7 @@ use ansi_style::state::Style;
 #[derive(Drop)]
 pub(crate) struct Rest<'t> {
     pub(crate) text: &'t str,
-    run_len: usize,
+    pub(crate) run_len: usize,
     ghost run_ends: { IsCharBoundary text.now run_len },
     ghost run_is_plain: { IsFalse (has_escape (take run_len text.now)) },
 }

@@ -1,7 +1,8 @@
 //! Parts of a text in another style.
 ghost use Rattle.std.specs.Prelude.{◌≡◌, ◌↔◌, ◌⊎◌, ◌++◌, ◌&&◌, ◌<◌, ◌≤◌, ◌+◌, ◌-◌, ◌*◌, ◌^◌, []};
-ghost use Rattle.std.specs.Prelude.{Some, filter, length, IfOk, IfSome, IsFalse};
+ghost use Rattle.std.specs.Prelude.{List, ℕ, None, filter, length, take, IfOk, IfSome, IsFalse};
 ghost use Rattle.std.specs.Prelude.{IsNone, IsOk, IsTrue, OnOk, string_bytes};
+ghost use Rattle.std.specs.Option.{MatchOption};
 ghost use Rattle.std.specs.Str.{IsUtf8};
 ghost use Rattle.std.specs.Cow.{cow_str_bytes, IsBorrowedStr};
 ghost use Rattle.ansi_items.specs.Pieces.{pieces_of};
@@ -16,15 +17,20 @@ ghost use Rattle.ansi_restyle.specs.Matches.{matches};
 ghost use Rattle.ansi_safe.specs.declared.policy.Links.{Links};
 ghost use Rattle.ansi_safe.specs.Safe.{is_safe};
 ghost use Rattle.ansi_restyle.specs.Ranges.{are_in_turn, are_empty, keep_line_ends};
+ghost use Rattle.ansi_style.specs.Rendition.{plain_style};
+ghost use Rattle.ansi_restyle.specs.Rests.{IsAtMatch};
 ghost use Rattle.ansi_restyle.specs.Restyled.{is_change, changed_run, changed_pieces, front, rest, restyled, IsRestyled};
 
 use crate::rest::Rest;
+use crate::unmarked::{AtMatch, Unmarked};
 use ansi_items::ansitok::{Kind, Scanner};
 use ansi_search::search;
 use ansi_style::state::Style;
 use ansi_style::styles;
+use memchr::memmem::Finder;
 use std::alloc::{AllocError, Allocator};
 use std::borrow::CowStr;
+use std::mem;
 
 /// Like `AnsiRestyle::ansi_restyle`, with a result that lives as long as the text, and with any
 /// allocator.
@@ -104,13 +110,12 @@ pub fn mark_in<'t, A: Allocator + Copy>(
     if pat.is_empty() {
         return Ok(Some(CowStr::Borrowed(text)));
     }
-    let left = Rest::new(text);
-    let Some(first) = left.find(pat, 0) else {
+    let mut style = styles::plain_style();
+    let Some(first) = first_match(text, pat, &mut style) else {
         return Ok(Some(CowStr::Borrowed(text)));
     };
     let change = sequence_of(alloc, codes)?;
-    let mut marked = String::with_capacity(alloc, text.len())?;
-    push_marked(&mut marked, left, first, pat, change.as_str())?;
+    let marked = marked_text(alloc, text, first, style, change.as_str())?;
     Ok(Some(CowStr::Owned(marked)))
 }
 
@@ -145,6 +150,39 @@ pub(crate) fn are_in_turn(text: &str, ranges: &[(usize, usize)]) -> bool
         place = range.1;
     }
     search::is_char_boundary(text, place)
+}
+
+/// The index of the first range that `ansi_restyle` and `ansi_replace_each` refuse, or `None` if they
+/// refuse none.
+///
+/// A range counts bytes of the plain text. It is refused if it begins or ends past the end or inside
+/// a character, ends before it begins, or begins before the range before it ends. Takes time in
+/// proportion to the text and the ranges. Doesn't allocate. (Own.)
+///
+/// ```
+/// assert!(rt; refused_range("\x1b[31mred", &[(0, 1), (1, 3)]).is_none());
+/// assert!(rt; refused_range("\x1b[31mred", &[(0, 2), (1, 3)]) == Some(1));
+/// assert!(rt; refused_range("\x1b[31mred", &[(0, 4), (5, 6)]) == Some(0));
+/// ```
+pub fn refused_range(text: &str, ranges: &[(usize, usize)]) -> Option<usize>
+    ensures none { IsNone result ↔ IsTrue (are_in_turn (plain text.now) 0 ranges.now) }
+    ensures first { IfSome result (λ n. n < length ranges.now
+        × (IsTrue (are_in_turn (plain text.now) 0 (take n ranges.now))
+        × IsFalse (are_in_turn (plain text.now) 0 (take (n + 1) ranges.now)))) }
+{
+    let mut rest = Rest::new(text);
+    let mut place = 0;
+    for (index, &range) in ranges.iter().enumerate() {
+        let Some(after) = rest.after_range(place, range) else {
+            return Some(index);
+        };
+        if !search::is_char_boundary(rest.text, range.1 - place) {
+            return Some(index);
+        }
+        rest = after;
+        place = range.1;
+    }
+    None
 }
 
 /// The SGR with these codes.
@@ -182,37 +220,107 @@ fn push_restyled<A: Allocator>(
     Ok(())
 }
 
-/// Appends what is left of a text with a change in each match of a pattern that isn't empty. The
-/// first match begins at `first`. `Err` means out of memory; what was appended before it stays.
+/// The text in two at the first match of a pattern that isn't empty, or `None` if there is none.
+/// Every SGR up to the match changes the style.
+fn first_match<'t, 'p>(text: &'t str, pat: &'p str, style: &mut Style) -> Option<AtMatch<'t, 'p>>
+    requires { 0 < length pat.now }
+    ensures { MatchOption result (first_match_from (plain text.now) pat.now 0 ≡ None) (λ at.
+        (at.rest.pat.now ≡ pat.now) × IsAtMatch text.now pat.now at.front.now
+        at.rest.rest.text.now (rendition_of style.old) (rendition_of style.new)) }
+{
+    // most texts that are searched have no match, and a finder is dear for a short one
+    search::find_from(text, pat, 0)?;
+    let finder = Finder::new(pat.as_bytes());
+    let first = Unmarked::new(text, pat).cut(&finder, style);
+    // (it owns nothing; a drop would need `Global`, which a module of WebAssembly lacks)
+    mem::forget(finder);
+    first
+}
+
+/// A text with a change in each match of a pattern that isn't empty. `first` is the text in two at
+/// the first match, and `style` the style there.
+fn marked_text<A: Allocator>(
+    alloc: A,
+    text: &str,
+    first: AtMatch<'_, '_>,
+    style: Style,
+    change: &str,
+) -> Result<String<A>, AllocError>
+    requires change { IsTrue (is_sgr change.now) }
+    requires pat { 0 < length first.rest.pat.now }
+    requires first { IsAtMatch text.now first.rest.pat.now first.front.now first.rest.rest.text.now
+        plain_style (rendition_of style) }
+    ensures { IfOk result (λ s. string_bytes s
+        ≡ restyled text.now change.now (matches (plain text.now) first.entry.rest.pat.now)) }
+{
+    let mut out = String::with_capacity(alloc, text.len())?;
+    let finder = Finder::new(first.rest.pat.as_bytes());
+    let pushed = push_marked(&mut out, text, first, &finder, style, change);
+    mem::forget(finder);
+    pushed?;
+    Ok(out)
+}
+
+/// Appends a text with a change in each match of the finder's pattern. `Err` means out of memory;
+/// what was appended before it stays.
 fn push_marked<A: Allocator>(
     out: &mut String<A>,
-    left: Rest<'_>,
-    first: usize,
-    pat: &str,
+    text: &str,
+    first: AtMatch<'_, '_>,
+    finder: &Finder<'_>,
+    style: Style,
     change: &str,
 ) -> Result<(), AllocError>
     requires change { IsTrue (is_sgr change.now) }
-    requires pat { 0 < length pat.now }
-    requires first { Some first ≡ first_match_from (plain left.text.now) pat.now 0 }
-    requires utf8 { IsUtf8 (plain left.text.now) }
+    requires pat { 0 < length first.rest.pat.now }
+    requires finder { finder.now ≡ first.rest.pat.now }
+    requires utf8 { IsUtf8 first.rest.pat.now }
+    requires first { IsAtMatch text.now first.rest.pat.now first.front.now first.rest.rest.text.now
+        plain_style (rendition_of style) }
     ensures { OnOk result (string_bytes out.new ≡ string_bytes out.old
-        ++ restyled left.entry.text.now change.now (matches (plain left.entry.text.now) pat.now)) }
+        ++ restyled text.now change.now (matches (plain text.now) first.entry.rest.pat.now)) }
 {
-    let mut style = styles::plain_style();
-    let mut left = left;
-    let mut next = Some(first);
-    'matches: while let Some(place) = next {
-        left = push_range(out, &left, &mut style, place, pat.len(), change)?;
-        next = left.find(pat, 0);
+    let mut style = style;
+    out.push_str(first.front)?;
+    let mut left = push_match(out, first.rest, &mut style, change)?;
+    'matches: while let Some(at) = left.cut(finder, &mut style) {
+        out.push_str(at.front)?;
+        left = push_match(out, at.rest, &mut style, change)?;
     }
-    out.push_str(left.text)?;
+    out.push_str(left.rest.text)?;
     Ok(())
+}
+
+/// Appends the match at which a text begins with a change in it, and returns what follows it.
+/// `style` is the style before the match, and then that at its end. `Err` means out of memory; what
+/// was appended before it stays.
+fn push_match<'t, 'p, A: Allocator>(
+    out: &mut String<A>,
+    at: Unmarked<'t, 'p>,
+    style: &mut Style,
+    change: &str,
+) -> Result<Unmarked<'t, 'p>, AllocError>
+    requires change { IsTrue (is_sgr change.now) }
+    requires end { IsTrue (no_character_goes_on (plain at.rest.text.now) (length at.pat.now)) }
+    ensures bytes { OnOk result (string_bytes out.new ≡ string_bytes out.old
+        ++ changed_pieces change.now (rendition_of style.old)
+        (pieces_of (front (length at.entry.pat.now) at.entry.rest.text.now))) }
+    ensures left { IfOk result (λ left. (left.pat.now ≡ at.entry.pat.now)
+        × (left.rest.text.now ≡ rest (length at.entry.pat.now) at.entry.rest.text.now)) }
+    ensures style { OnOk result (rendition_of style.new ≡ style_within (rendition_of style.old)
+        at.entry.rest.text.now (length at.entry.pat.now)) }
+{
+    let style_before = *style;
+    let ended = at.rest.split_at(style, at.pat.len()).unwrap();
+    push_changed(out, ended.front, style_before, change)?;
+    Ok(at.after(ended.front.len(), ended.rest))
 }
 
 /// Appends what is left of a text up to the end of a range, with a change in the range, and returns
 /// what follows it. The range begins at the position `start` and is `len` bytes long. `style` is the
 /// style before the text, and then that at the end of the range. `Err` means out of memory; what was
 /// appended before it stays.
+#[inline(always)]
 fn push_range<'t, A: Allocator>(
     out: &mut String<A>,
     left: &Rest<'t>,

@@ -108,9 +108,10 @@ impl<'r> Call<'r> {
             "matches" | "find_from" | "restyle" | "mark" | "remove" | "replace" | "insert" => {
                 Call::Restyles(RestyleCall::new(row)?)
             }
-            "replace_all" | "replace_each" | "link" | "unlink" | "links" => {
+            "refused_range" | "replace_all" | "replace_each" | "link" | "unlink" | "links" => {
                 Call::Restyles(RestyleCall::new(row)?)
             }
+            "style_of" | "union" | "difference" => Call::Restyles(RestyleCall::new(row)?),
             _ => Call::Columns(ColumnCall::new(row)?),
         })
     }

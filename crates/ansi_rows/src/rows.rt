@@ -85,9 +85,11 @@ impl<'r> Row<'r> {
             return None;
         };
         let gives = match call.as_str() {
-            "split" | "split_at" | "lines" | "wrap" | "matches" => more.get(1..)?,
+            "split" | "split_at" | "lines" | "wrap" | "matches" | "union" | "difference" => {
+                more.get(1..)?
+            }
             "wrap_with" => more.get(3..)?,
-            "blocks" | "styled_blocks" | "items" | "links" | "pen_after" => more,
+            "blocks" | "styled_blocks" | "items" | "links" | "pen_after" | "style_of" => more,
             _ if status.as_str() == "0" => std::slice::from_ref(result),
             _ => &[],
         };

@@ -1,4 +1,5 @@
 pub mod LinkLemmas
+pub mod AddressLemmas
 mod LinkExamples
 pub mod EndingLemmas
 pub mod MadeLemmas

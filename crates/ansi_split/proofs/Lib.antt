@@ -16,3 +16,4 @@ pub mod SplitLemmas
 pub mod MatchWalkLemmas
 pub mod PartLengthLemmas
 pub mod IntervalWalkLemmas
+pub mod CursorLemmas

@@ -1,9 +1,13 @@
 -- A run of plain text at the front of a text, and a match that begins in it.
-use Rattle.ansi_split.proofs.Common.{◌≡◌, ◌≢◌, ℕ, ◌+◌, ◌-◌, ◌<◌, ◌≤◌, inl, inr, false, List, [], ◌∷◌, ◌++◌, length, take, drop, Option, Some, None, refl, sym, ◌∙◌, ap, ap₂, subst, arith, IsFalse, is_some, slice_index, length-append, nat_eq, unwrap_or, or_parts, and_parts, cases_lt, eq-eqb, take-append-drop, take-take, drop-drop, length-take-le, length-drop, get_or-drop, get_or_append_left, list_any-append, starts_with, IsUtf8, IsCharBoundary, Nowhere, NoneBefore, IsFirst, Passes, is_byte, escape, Piece, Text, after_text, pieces_of, ArePieces, plain, has_escape, Rendition, after_marks, style_after_from, is_char_boundary, no_character_goes_on, first_match_from, IsCutAtMatch, pieces_are, all_plain_bytes, has_escape-bare, marks-bare, IsMatch, match_fits, first_in_front, is_match-front, first_match_from-first, first_match_from-is, starts_with-splits, bytes_before, bytes_before-last, no_character_goes_on-append, good_is_boundary}
+use Rattle.ansi_split.proofs.Common.{◌≡◌, ◌≢◌, ℕ, ◌+◌, ◌-◌, ◌<◌, ◌≤◌, inl, inr, false, List, [], ◌∷◌, ◌++◌, length, take, drop, Option, Some, None, refl, sym, ◌∙◌, ap, ap₂, subst, arith, IsFalse, is_some, slice_index, length-append, nat_eq, unwrap_or, or_parts, and_parts, cases_lt, eq-eqb, eqb-true, take_all, IsCharBoundary-end, take-append-drop, take-take, drop-drop, length-take-le, length-drop, get_or-drop, get_or_append_left, list_any-append, starts_with, IsUtf8, IsCharBoundary, Nowhere, NoneBefore, IsFirst, Passes, is_byte, escape, Piece, Text, after_text, pieces_of, ArePieces, plain, has_escape, Rendition, after_marks, style_after_from, is_char_boundary, no_character_goes_on, first_match_from, IsCutAtMatch, pieces_are, all_plain_bytes, has_escape-bare, plain-bare, none_at_end, marks-bare, IsMatch, match_fits, first_in_front, is_match-front, first_match_from-first, first_match_from-is, starts_with-splits, bytes_before, bytes_before-last, no_character_goes_on-append, good_is_boundary}
 use Rattle.std.specs.Prelude.{◌==◌}
 use Rattle.std.specs.List.{slice_range}
 use Rattle.ansi_split.proofs.AfterLemmas.{drop-take, is_cut_after}
 use Rattle.ansi_split.proofs.SpanLemmas.{is_cut_at_match, match_is_good}
+use Rattle.ansi_split.proofs.TakenLemmas.{is_first_taken}
+use Rattle.std.proofs.lemmas.Str.{IsCharBoundary-before_ascii}
+use Rattle.ansi_search.proofs.PrefixLemmas.{bare_before}
+use Rattle.ansi_search.proofs.MatchLemmas.{no_escape-found}
 use Rattle.ansi_items.proofs.JoinLemmas.{pieces_of-run, plain-front}
 
 -- A run at the front joins the text after it.
@@ -95,6 +99,19 @@ first_or_past x p from past below = by_match (first_match_from x p from) refl
     by_match None none = sym (first_match_from-is x p past None (λ k low high. absurd (omega (arith, low, high, below))))
     by_match (Some m) found = first_match_from-again x p from m found
 
+pub first_or_past_later : (x p : List ℕ) (from past : ℕ) → from ≤ past → from ≤ unwrap_or (first_match_from x p from) past
+first_or_past_later x p from past below = by_match (first_match_from x p from) refl
+  where
+    by_match : (r : Option ℕ) → first_match_from x p from ≡ r → from ≤ unwrap_or r past
+    by_match None none = below
+    by_match (Some m) found = (let first = is_first_taken x p from m found in first.at)
+
+-- no match of a pattern that isn't empty begins at the end
+pub no_match_past : (t p : List ℕ) (later : ℕ) → IsFalse (has_escape t) → 0 < length p → length t ≤ later → first_match_from (plain t) p later ≡ None
+no_match_past t p later none some past =
+    let size : length (plain t) ≡ length t = ap length (plain-bare t none) in
+    sym (none_at_end (plain t) p later (length (plain t)) refl (λ empty. absurd (omega (arith, some, empty))) (λ k low high. absurd (omega (arith, low, high, size, past))))
+
 pub here_or_past : (r : Option ℕ) (past run : ℕ) → run ≤ past → unwrap_or r past < run → r ≡ Some (unwrap_or r past)
 here_or_past None past run top below = absurd (omega (arith, top, below))
 here_or_past (Some m) past run top below = refl
@@ -104,7 +121,7 @@ here_or_past (Some m) past run top below = refl
 pub no_escape-parts : (n : ℕ) (w : List ℕ) → IsFalse (has_escape w) → (has_escape (take n w) ≡ false) × (has_escape (drop n w) ≡ false)
 no_escape-parts n w none = or_parts _ _ (sym (list_any-append (λ b. b == escape) (take n w) (drop n w)) ∙ ap has_escape (take-append-drop n w) ∙ none)
 
-no_escape-take : (t : List ℕ) (start run : ℕ) → start ≤ run → IsFalse (has_escape (take run t)) → has_escape (take start t) ≡ false
+pub no_escape-take : (t : List ℕ) (start run : ℕ) → start ≤ run → IsFalse (has_escape (take run t)) → has_escape (take start t) ≡ false
 no_escape-take t start run before none = ap has_escape (sym (take-take start run t before)) ∙ (no_escape-parts start (take run t) none).0
 
 pub cut_in_run : (t p : List ℕ) (from run start : ℕ) → IsUtf8 t → IsUtf8 p → run ≤ length t → IsFalse (has_escape (take run t)) → start < run → first_match_from (plain t) p from ≡ Some start
@@ -129,11 +146,26 @@ match_boundary_in_run t p from run start inside none before found =
     ∙ match_is_good (plain t) p from start found)
 
 -- nothing in it changes the style
-pub style-run : (c : Rendition) (t : List ℕ) (start run : ℕ) → start ≤ run → IsFalse (has_escape (take run t)) → c ≡ style_after_from c (take start t)
-style-run c t start run before none = sym (ap (after_marks c) (marks-bare (take start t) (no_escape-take t start run before none)))
+pub style-bare : (c : Rendition) (front : List ℕ) → IsFalse (has_escape front) → style_after_from c front ≡ c
+style-bare c front none = ap (after_marks c) (marks-bare front none)
 
-pub unmarked-run : (t : List ℕ) (start run : ℕ) → start ≤ run → IsFalse (has_escape (take run t)) → false ≡ has_escape (take start t)
-unmarked-run t start run before none = sym (no_escape-take t start run before none)
+-- The run at the front of a text, up to its first ESC or its end.
+
+pub run_ends : (t : List ℕ) (r : Option ℕ) → IsFirst (Passes (is_byte escape) t) 0 (length t) r → IsCharBoundary t (unwrap_or r (length t))
+run_ends t None none = IsCharBoundary-end t
+run_ends t (Some n) first =
+    let found : NoneBefore (Passes (is_byte escape) t) 0 (length t) n = first.0 in
+    let high : n < length t = found.high in
+    let is : slice_index t n ≡ escape = eqb-true (slice_index t n) escape first.1 in
+    IsCharBoundary-before_ascii t n high (omega (arith, is))
+
+pub run_is_plain : (t : List ℕ) (r : Option ℕ) → IsFirst (Passes (is_byte escape) t) 0 (length t) r → IsFalse (has_escape (take (unwrap_or r (length t)) t))
+run_is_plain t None none = ap has_escape (take_all (length t) t (omega arith)) ∙ no_escape-found t none
+run_is_plain t (Some n) first =
+    let found : NoneBefore (Passes (is_byte escape) t) 0 (length t) n = first.0 in
+    let high : n < length t = found.high in
+    let all = take_all (length t) t (omega arith) in
+    bare_before t (length t) n (omega (arith, high)) (omega (arith, high)) (λ k low below passes. found.before k low below (subst (λ v. Passes (is_byte escape) v k) all passes))
 
 -- What is left of the run after a place in it.
 

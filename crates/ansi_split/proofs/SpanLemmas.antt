@@ -119,6 +119,16 @@ parts_left-first c t p skip from front after at_match =
     (ap (parts_from c t (Some m)) moved ∙ parts-after c t m front after None (intervals_between n n (length (drop m x)) ms) first.inside cut
     ∙ ap₂ (λ s y. parts_from s after None (intervals_between n n (length y) (without_overlaps n (max n 1) (match_places y p)))) style (sym cut.plain_after))
 
+-- The same parts are left, if the next match is the first from a later place on too.
+pub parts_left-again : (c : Rendition) (t p : List ℕ) (skip from later : ℕ) → first_match_from (plain t) p later ≡ first_match_from (plain t) p from → parts_left c t p skip later ≡ parts_left c t p skip from
+unfolding parts_left
+parts_left-again c t p skip from later same =
+    ap (λ taken. parts_from c t None (intervals_between (length p) skip (length (plain t)) taken)) (alike (first_match_from (plain t) p from) refl)
+  where
+    alike : (r : Option ℕ) → first_match_from (plain t) p from ≡ r → without_overlaps (length p) later (match_places (plain t) p) ≡ without_overlaps (length p) from (match_places (plain t) p)
+    alike None none = without_overlaps-none (length p) later (match_places (plain t) p) (same ∙ none) ∙ sym (without_overlaps-none (length p) from (match_places (plain t) p) none)
+    alike (Some m) found = (is_first_taken (plain t) p later m (same ∙ found)).taken ∙ sym (is_first_taken (plain t) p from m found).taken
+
 -- The plain bytes that are left out end with a character.
 
 pub skip_at_front : (t : List ℕ) → IsUtf8 t → IsTrue (is_char_boundary (plain t) 0)

@@ -1,5 +1,5 @@
 -- The parts that a split gives: those of the text, each by its index; and a part that is written or borrowed.
-use Rattle.ansi_split.proofs.Common.{◌≡◌, Bool, unwrap_or, ℕ, zero, suc, ◌+◌, ◌≤◌, true, false, not, ◌&&◌, ◌||◌, ◌==◌, List, [], ◌∷◌, ◌++◌, length, map, drop, Option, Some, None, option_map, refl, sym, ◌∙◌, ap, ap₂, arith, IsTrue, IsFalse, if◌then◌else◌, slice_get, append-nil, eqb-true, eq-eqb, ne_eqb, cond_both, or_from, and_parts, and_from, and-false, or-true, none-some, same_Some, drop_all, list_any-append, range_with_len, list_all, escape, Piece, Text, ArePieces, pieces_of, Mark, plain, marks_of, marks, marks_up_to, has_escape, Rendition, plain_style, has_any, start, close_if_any, style_of, style_at, parts, end_before, carried, part, all_parts, part_from, source_len, is_part_borrowed, CarriedPart, split_part, split_parts, parts_from, parts_left, span_part, span_text, pieces_are, has_escape-bare, plain-bare, slice_range-past, mark_further_on, marks-bare, marks_of-text, marks_of-mark, marks_up_to-marks_past, interleaved-bare, start-unset, close_if_any-unset}
+use Rattle.ansi_split.proofs.Common.{◌≡◌, Bool, unwrap_or, ℕ, zero, suc, ◌+◌, ◌-◌, ◌≤◌, take, or_parts, take-append-drop, length-drop, nat_tests, true, false, not, ◌&&◌, ◌||◌, ◌==◌, List, [], ◌∷◌, ◌++◌, length, map, drop, Option, Some, None, option_map, refl, sym, ◌∙◌, ap, ap₂, arith, IsTrue, IsFalse, if◌then◌else◌, slice_get, append-nil, eqb-true, eq-eqb, ne_eqb, cond_both, or_from, and_parts, and_from, and-false, or-true, none-some, same_Some, drop_all, list_any-append, range_with_len, list_all, escape, Piece, Text, ArePieces, pieces_of, Mark, plain, marks_of, marks, marks_up_to, has_escape, Rendition, plain_style, has_any, start, close_if_any, style_of, style_at, parts, end_before, carried, part, all_parts, part_from, source_len, is_part_borrowed, CarriedPart, split_part, split_parts, parts_from, parts_left, span_part, span_text, pieces_are, has_escape-bare, plain-bare, slice_range-past, mark_further_on, marks-bare, marks_of-text, marks_of-mark, marks_up_to-marks_past, interleaved-bare, start-unset, close_if_any-unset}
 use Rattle.std.proofs.lemmas.Bool.{true≢false}
 use Rattle.ansi_split.proofs.IntervalLemmas.{end_before_index, end_before_index-suc, end_before_index-none}
 use Rattle.ansi_split.proofs.PartTextLemmas.{length-parts, all_parts-over}
@@ -102,6 +102,15 @@ pub record IsBare (c : Rendition) (t : List ℕ) (skip : ℕ) : Type 0 where
 bare_part : (c : Rendition) (t : List ℕ) (skip : ℕ) → has_escape t ≡ false → (span_part c t skip).bytes ≡ (if skip == length t && true then [] else start c ++ drop skip t ++ close_if_any c)
 unfolding part_from
 bare_part c t skip none = grind (arith, marks-bare, plain-bare, interleaved-bare, slice_range-past)
+
+-- without the bytes that are left out, it is the same part
+pub span_part-drop : (c : Rendition) (t : List ℕ) (skip : ℕ) → has_escape t ≡ false → skip ≤ length t → span_part c t skip ≡ span_part c (drop skip t) 0
+unfolding part_from
+span_part-drop c t skip none inside =
+    let none_after : has_escape (drop skip t) ≡ false = (or_parts (has_escape (take skip t)) (has_escape (drop skip t)) (sym (list_any-append (λ b. b == escape) (take skip t) (drop skip t)) ∙ ap has_escape (take-append-drop skip t) ∙ none)).1 in
+    let size : length (drop skip t) ≡ length t - skip = length-drop skip t in
+    let same : (skip == length t) ≡ (0 == length (drop skip t)) = grind (arith, nat_tests) in
+    grind (arith, marks-bare, plain-bare, interleaved-bare, slice_range-past)
 
 pub bare-empty : (c : Rendition) (t : List ℕ) (skip : ℕ) → has_escape t ≡ false → skip ≡ length t → IsBare c t skip
 bare-empty c t skip none end = grind (arith, bare_part, drop_all, eq-eqb, marks-bare, plain-bare, span_part-borrowed)

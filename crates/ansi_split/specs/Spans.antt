@@ -1,8 +1,8 @@
 -- The parts of a text that is read with a style already open, and after the match before.
-use Rattle.std.specs.Prelude.{◌≡◌, ℕ, ◌+◌, Bool, List, [], ◌∷◌, ◌++◌, length, map, zip, drop, take, Option, Some, None, IsTrue}
+use Rattle.std.specs.Prelude.{◌≡◌, ℕ, ◌+◌, ◌≤◌, Bool, List, [], ◌∷◌, ◌++◌, length, map, zip, drop, take, Option, Some, None, IsTrue}
 use Rattle.ansi_style.specs.declared.state.rendition.Rendition.{Rendition}
 use Rattle.ansi_items.specs.Plain.{Mark, plain, marks, marks_up_to, has_escape}
-use Rattle.ansi_style.specs.Written.{start, close_if_any}
+use Rattle.ansi_style.specs.Written.{start, close_if_any, longest_start_and_close}
 use Rattle.ansi_style.specs.Reading.{style_after_from, style_within}
 use Rattle.ansi_slice.specs.Cut.{interleaved}
 use Rattle.ansi_search.specs.Positions.{is_char_boundary}
@@ -39,6 +39,10 @@ unfoldable pub parts_left : Rendition → List ℕ → List ℕ → ℕ → ℕ 
 parts_left c t p skip from =
     let taken = without_overlaps (length p) from (match_places (plain t) p) in
     parts_from c t None (zip (skip ∷ map (λ m. m + length p) taken) (taken ++ length (plain t) ∷ []))
+
+-- the first of these parts is the text `bare`, a borrow, which is at most as long as its source, a start and a close; the others are left
+abbrev pub IsBareFirst : List CarriedPart → List ℕ → List CarriedPart → Type 0
+IsBareFirst old bare new = (p : CarriedPart) × (old ≡ p ∷ new) × (p.bytes ≡ bare) × IsTrue p.borrowed × (length p.bytes ≤ p.source_len + longest_start_and_close)
 
 -- all of t without its first `skip` plain bytes, with every mark, between the start of c and the close of the style then
 unfoldable pub span_text : Rendition → List ℕ → ℕ → List ℕ

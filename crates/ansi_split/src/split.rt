@@ -9,8 +9,9 @@ ghost use Rattle.ansi_style.specs.Written.{longest_start_and_close};
 ghost use Rattle.std.specs.Prelude.{List, string_bytes};
 ghost use Rattle.ansi_split.specs.Splits.{CarriedPart, PushesPart, split_parts};
 
+pub(crate) mod cursors;
 pub(crate) mod intervals;
-mod rest;
+pub(crate) mod rest;
 pub(crate) mod spans;
 
 use crate::split::spans::PartSpans;
@@ -83,6 +84,9 @@ impl<'a, A: Allocator + Copy> Iterator for AnsiSplit<'a, A> {
     /// The next part, or `None` for good after the last part and after an `Err`.
     #[inline(always)]
     fn next(&mut self) -> Option<Result<CowStr<'a, A>, AllocError>> {
+        if let Some(bare) = self.spans.next_bare() {
+            return Some(Ok(CowStr::Borrowed(bare)));
+        }
         let span = self.spans.next()?;
         match span.write(self.alloc) {
             Ok(part) => Some(Ok(part)),

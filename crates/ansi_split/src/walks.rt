@@ -1,14 +1,21 @@
 //! Splits that are paused, in memory that isn't Rattle's. They have a module of their own, since
 //! `ansi_str` passes `split` on.
-ghost use Rattle.std.specs.Prelude.{◌≡◌};
+ghost use Rattle.std.specs.Prelude.{◌≡◌, ◌∷◌, IsFalse, IfSome};
+ghost use Rattle.std.specs.Option.{MatchOption};
+ghost use Rattle.ansi_items.specs.Plain.{has_escape};
+ghost use Rattle.ansi_style.specs.States.{rendition_of_numbers};
+ghost use Rattle.ansi_split.specs.Spans.{span_part, IsBareFirst};
 ghost use Rattle.ansi_split.specs.Splits.{split_parts, GivesPart};
 ghost use Rattle.ansi_split.specs.Walks.{parts_of_walk, IsPartWalk};
 
-use crate::split::AnsiSplit;
-use crate::split::spans::PartSpans;
+use crate::split::cursors::Cursor;
+use crate::split::rest::Rest;
+use crate::split::spans::{PartSpan, PartSpans};
 use ansi_style::numbers::StyleNumbers;
+use ansi_style::styles;
 use std::alloc::{AllocError, Allocator};
 use std::borrow::CowStr;
+use std::str::from_utf8_unchecked;
 
 /// What is left of a text that is split, and the style there, as plain data. In contracts it is the
 /// list of the parts left, by `parts_of_walk`. (Own.)
@@ -24,6 +31,70 @@ pub struct PartWalk<'a> {
     pub(crate) from: usize,
     pub(crate) carried: StyleNumbers,
     pub(crate) finished: bool,
+}
+
+impl<'a> PartWalk<'a> {
+    /// What is left of its text.
+    pub(crate) fn cursor(&self) -> Cursor<'a>
+        requires { IsPartWalk self.now }
+        ensures text { result.rest.text.now ≡ self.now.rest.now }
+        ensures skip { result.skip ≡ self.now.skip }
+        ensures from { result.from ≡ self.now.from }
+        ensures finished { result.finished ≡ self.now.finished }
+    {
+        let text = unsafe { from_utf8_unchecked(self.rest) };
+        Cursor {
+            rest: Rest::with_run(text, self.run_len),
+            skip: self.skip,
+            from: self.from,
+            finished: self.finished,
+        }
+    }
+
+    /// Its pattern.
+    pub(crate) fn pattern(&self) -> &'a str
+        requires { IsPartWalk self.now }
+        ensures { result.now ≡ self.now.pattern.now }
+    {
+        unsafe { from_utf8_unchecked(self.pattern) }
+    }
+
+    /// The text of the next part, if the part ends in the known plain run. After `None` the same
+    /// parts are left.
+    #[inline(always)]
+    fn next_run(&mut self) -> Option<&'a str>
+        requires { IsPartWalk self.old }
+        ensures walk { IsPartWalk self.new }
+        ensures carried { self.new.carried ≡ self.old.carried }
+        ensures plain { IfSome result (λ run. IsFalse (has_escape run.now)) }
+        ensures parts { MatchOption result (parts_of_walk self.new ≡ parts_of_walk self.old)
+            (λ run. parts_of_walk self.old
+            ≡ span_part (rendition_of_numbers self.old.carried) run.now 0 ∷ parts_of_walk self.new) }
+    {
+        let mut at = self.cursor();
+        let run = at.next_in_run(self.pattern());
+        self.rest = at.rest.text().as_bytes();
+        self.run_len = at.rest.run_len();
+        self.skip = at.skip;
+        self.from = at.from;
+        self.finished = at.finished;
+        run
+    }
+
+    /// The next part, if it is a stretch of the known plain run and no style is carried into it.
+    /// After `None` the same parts are left.
+    #[inline(always)]
+    fn next_bare(&mut self) -> Option<&'a str>
+        requires { IsPartWalk self.old }
+        ensures walk { IsPartWalk self.new }
+        ensures next { MatchOption result (parts_of_walk self.new ≡ parts_of_walk self.old)
+            (λ bare. IsBareFirst (parts_of_walk self.old) bare.now (parts_of_walk self.new)) }
+    {
+        if styles::has_any(&self.carried.style()) {
+            return None;
+        }
+        self.next_run()
+    }
 }
 
 /// A walk that has all parts left. (Own.)
@@ -43,9 +114,30 @@ pub fn next_in<'a, A: Allocator + Copy>(
     ensures walk { IsPartWalk walk.new }
     ensures next { GivesPart (parts_of_walk walk.old) result (parts_of_walk walk.new) }
 {
-    let spans = PartSpans::of(walk);
-    let mut parts = AnsiSplit { alloc, spans };
-    let part = parts.next();
-    *walk = parts.spans.walk();
-    part
+    if walk.finished {
+        return None;
+    }
+    if let Some(bare) = walk.next_bare() {
+        return Some(Ok(CowStr::Borrowed(bare)));
+    }
+    if let Some(run) = walk.next_run() {
+        return match PartSpan::of_run(run, walk.carried.style()).write(alloc) {
+            Ok(part) => Some(Ok(part)),
+            Err(e) => {
+                walk.finished = true;
+                Some(Err(e))
+            }
+        };
+    }
+    let mut spans = PartSpans::of(walk);
+    match spans.next()?.write(alloc) {
+        Ok(part) => {
+            *walk = spans.walk();
+            Some(Ok(part))
+        }
+        Err(e) => {
+            walk.finished = true;
+            Some(Err(e))
+        }
+    }
 }

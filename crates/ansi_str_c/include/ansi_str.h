@@ -342,6 +342,8 @@ ansi_str_answers ansi_str_raw_matches(const uint8_t *text, size_t text_len, cons
                                       ansi_str_range *ranges, size_t ranges_len);
 ansi_str_answer ansi_str_raw_restyle(const uint8_t *text, size_t text_len, const ansi_str_range *ranges, size_t ranges_len,
                                      const uint8_t *codes, size_t codes_len, uint8_t *buffer, size_t buffer_len);
+ansi_str_answer ansi_str_raw_refused_range(const uint8_t *text, size_t text_len, const ansi_str_range *ranges,
+                                           size_t ranges_len);
 ansi_str_answer ansi_str_raw_mark(const uint8_t *text, size_t text_len, const uint8_t *pattern, size_t pattern_len,
                                   const uint8_t *codes, size_t codes_len, uint8_t *buffer, size_t buffer_len);
 ansi_str_answer ansi_str_raw_remove(const uint8_t *text, size_t text_len, size_t start, size_t end, uint8_t *buffer,
@@ -397,6 +399,8 @@ ansi_str_answer ansi_str_raw_lines_begin(const uint8_t *text, size_t text_len, s
 ansi_str_answer ansi_str_raw_lines_next(ansi_str_line_walk *walk, ansi_str_line_entry *line);
 ansi_str_answer ansi_str_raw_style_start(const ansi_str_style *style, uint8_t *buffer, size_t buffer_len);
 ansi_str_answer ansi_str_raw_style_end(const ansi_str_style *style, uint8_t *buffer, size_t buffer_len);
+ansi_str_style ansi_str_raw_style_union(const ansi_str_style *first, const ansi_str_style *second);
+ansi_str_style ansi_str_raw_style_difference(const ansi_str_style *first, const ansi_str_style *second);
 ansi_str_answer ansi_str_raw_width(const uint8_t *text, size_t text_len);
 ansi_str_answer ansi_str_raw_fitting(const uint8_t *text, size_t text_len, size_t width);
 ansi_str_answer ansi_str_raw_column_of(const uint8_t *text, size_t text_len, size_t position);
@@ -452,7 +456,7 @@ static inline uint8_t *ansi_str_room(char *buffer) {
     return (uint8_t *)(uintptr_t)ansi_str_bytes(buffer);
 }
 
-/* The plain text: the text without its sequences. It is never longer than the text.
+/* The plain text: the text without its sequences. It is never longer than the text. Doesn't allocate for a buffer as long as the text.
    "\x1b[31mred\x1b[39m and plain" gives "red and plain". */
 static inline ansi_str_answer ansi_str_strip(const char *text, size_t text_len, char *buffer, size_t buffer_len) {
     return ansi_str_raw_strip(ansi_str_bytes(text), text_len, ansi_str_room(buffer), buffer_len);
@@ -553,6 +557,15 @@ static inline ansi_str_answer ansi_str_restyle(const char *text, size_t text_len
     ansi_str_range none = {0, 0};
     return ansi_str_raw_restyle(ansi_str_bytes(text), text_len, ranges == NULL ? &none : ranges, ranges_len,
                                 ansi_str_bytes(codes), codes_len, ansi_str_room(buffer), buffer_len);
+}
+
+/* Which range ansi_str_restyle and ansi_str_replace_each refuse: the index of the first, counted from 0, as the returned length.
+   ANSI_STR_NO: they refuse none. Allocates if there is a range, on any text.
+   Of "red" with ranges from 0 up to 2 and from 1 up to 3 it is 1. */
+static inline ansi_str_answer ansi_str_refused_range(const char *text, size_t text_len, const ansi_str_range *ranges,
+                                                     size_t ranges_len) {
+    ansi_str_range none = {0, 0};
+    return ansi_str_raw_refused_range(ansi_str_bytes(text), text_len, ranges == NULL ? &none : ranges, ranges_len);
 }
 
 /* The text with SGR codes applied to each match of the pattern, as ansi_str_matches finds them and ansi_str_restyle applies them.
@@ -817,9 +830,10 @@ static inline ansi_str_answer ansi_str_blocks_begin(const char *text, size_t tex
 /* The next block of a walk. Its run and its style go into `block`; the non-SGR sequences before the run, which most blocks
    don't have, go into the buffer. So the text of ansi_str_block is what the buffer holds and then the run. ANSI_STR_NO:
    there is none left. With any status but ANSI_STR_OK `block` is empty and the walk is unchanged, so the call can be made
-   again. A call reads up to the end of its block, so all blocks cost one walk. Allocates if there are such sequences.
-   The link of a run is that of ansi_str_links in whose range it is: a sequence ends a run, so no run is only partly in a range.
-   The position of a run is the length of all runs before it. */
+   again. A call reads up to the end of its block, so all blocks cost one walk. Allocates if an SGR follows such a sequence.
+   The link of a run is that of ansi_str_pen_after of the text before the run; without such sequences, it is that of the run
+   before. It is also that of ansi_str_links in whose range the run is: a sequence ends a run, so no run is only partly in a
+   range. The position of a run is the length of all runs before it. */
 static inline ansi_str_answer ansi_str_blocks_next(ansi_str_block_walk *walk, ansi_str_next_block *block, char *buffer,
                                                    size_t buffer_len) {
     *block = ansi_str_no_block();
@@ -827,13 +841,26 @@ static inline ansi_str_answer ansi_str_blocks_next(ansi_str_block_walk *walk, an
 }
 
 /* The sequences that set a style, and those that close it: at most ANSI_STR_LONGEST_START and ANSI_STR_LONGEST_CLOSE bytes. The
-   style must be one that a call returned, or all 0. Allocates. */
+   style must be one that a call returned, or all 0. Allocates if there are any. */
 static inline ansi_str_answer ansi_str_style_start(const ansi_str_style *style, char *buffer, size_t buffer_len) {
     return ansi_str_raw_style_start(style, ansi_str_room(buffer), buffer_len);
 }
 
 static inline ansi_str_answer ansi_str_style_end(const ansi_str_style *style, char *buffer, size_t buffer_len) {
     return ansi_str_raw_style_end(style, ansi_str_room(buffer), buffer_len);
+}
+
+/* What is set in either of two styles. A color or a font of the second is taken before that of the first; ANSI_STR_RESET and
+   ANSI_STR_UNKNOWN are those of the first. Each style must be one that a call returned, or all 0; the style of codes such as "1;31"
+   is that of ansi_str_pen_after of "\x1b[1;31m". Doesn't allocate. Of the styles of "1;31" and "34" it is that of "1;34". */
+static inline ansi_str_style ansi_str_style_union(const ansi_str_style *first, const ansi_str_style *second) {
+    return ansi_str_raw_style_union(first, second);
+}
+
+/* What is set in the first of two styles and isn't set so in the second, as ansi_str_style_union: no attribute, color or font that
+   both have. Of the styles of "1;31" and "31" it is that of "1". */
+static inline ansi_str_style ansi_str_style_difference(const ansi_str_style *first, const ansi_str_style *second) {
+    return ansi_str_raw_style_difference(first, second);
 }
 
 /* Whether a style has something to close: a color, a font or an attribute, of which ANSI_STR_RESET and ANSI_STR_UNKNOWN count only
@@ -1101,8 +1128,9 @@ static inline ansi_str_answers ansi_str_wrap_with(const char *text, size_t text_
                                   ends == NULL ? &none : ends, ends_len);
 }
 
-/* Where each line of ansi_str_wrap begins and ends in the plain text, if that call leaves nothing out and the text has no TAB;
-   otherwise a control has one column. The text can be cut there. The returned count is the number of lines, and the length 0.
+/* Where each line of the text begins and ends in the plain text, if it is wrapped to `width` columns of what is shown. A TAB is a
+   blank, and other controls have no column; those at the end of a line are left out. The text can be cut there. The returned count
+   is the number of lines, and the length 0.
    ANSI_STR_TOO_SMALL: there are more than `lines_len`. Doesn't allocate.
    "ab \x1b[1mcd  efg" in 5 columns has lines from 0 up to 5 and from 7 up to 10. */
 static inline ansi_str_answers ansi_str_lines(const char *text, size_t text_len, size_t width, ansi_str_line_entry *lines,

@@ -11,6 +11,7 @@ pub mod pens;
 pub mod restyles;
 pub mod safe;
 pub mod searches;
+pub mod styles;
 pub mod texts;
 pub mod unchecked;
 pub mod walks;

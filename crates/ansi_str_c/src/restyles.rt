@@ -1,6 +1,6 @@
-//! Calls on matches and on ranges: where a pattern occurs, parts of a text in another style, and a
-//! text without a part or with another text in its place.
-ghost use Rattle.ansi_calls.specs.Restyles.{WritesMatches, Restyles, Marks, Removes};
+//! Calls on matches and on ranges: where a pattern occurs, which range is refused, parts of a text in
+//! another style, and a text without a part or with another text in its place.
+ghost use Rattle.ansi_calls.specs.Restyles.{WritesMatches, Restyles, FindsRefused, Marks, Removes};
 ghost use Rattle.ansi_calls.specs.Restyles.{Replaces, Inserts, ReplacesAll};
 ghost use Rattle.ansi_calls.specs.Replacements.{ReplacesEach};
 
@@ -8,7 +8,7 @@ use ansi_calls::answers::Answer;
 use ansi_calls::lists::ListAnswer;
 use ansi_calls::replacements::{ReplacementEntry, replace_each};
 use ansi_calls::restyles::{
-    RangeEntry, insert, mark, matches, remove, replace, replace_all, restyle,
+    RangeEntry, insert, mark, matches, refused_range, remove, replace, replace_all, restyle,
 };
 use std::alloc::Global;
 
@@ -36,6 +36,18 @@ pub extern "C" fn ansi_str_raw_restyle(
     ensures { Restyles text.now entries.now codes.now result buffer.old buffer.new }
 {
     restyle(alloc, text, entries, codes, buffer)
+}
+
+/// The index of the first range that `ansi_str_raw_restyle` and `ansi_str_raw_replace_each` refuse.
+#[unsafe(no_mangle)]
+pub extern "C" fn ansi_str_raw_refused_range(
+    alloc: Global,
+    text: &[u8],
+    entries: &[RangeEntry],
+) -> Answer
+    ensures { FindsRefused text.now entries.now result }
+{
+    refused_range(alloc, text, entries)
 }
 
 /// The text with SGR codes applied to each match of a pattern.

@@ -1,6 +1,6 @@
-//! Calls on matches and on ranges: where a pattern occurs, parts of a text in another style, and a
-//! text without a part or with another text in its place.
-ghost use Rattle.ansi_calls.specs.Restyles.{WritesMatches, Restyles, Marks, Removes};
+//! Calls on matches and on ranges: where a pattern occurs, which range is refused, parts of a text in
+//! another style, and a text without a part or with another text in its place.
+ghost use Rattle.ansi_calls.specs.Restyles.{WritesMatches, Restyles, FindsRefused, Marks, Removes};
 ghost use Rattle.ansi_calls.specs.Restyles.{Replaces, Inserts, ReplacesAll};
 ghost use Rattle.ansi_calls.specs.Replacements.{ReplacesEach};
 
@@ -9,7 +9,7 @@ use ansi_calls::answers::Answer;
 use ansi_calls::lists::ListAnswer;
 use ansi_calls::replacements::{ReplacementEntry, replace_each};
 use ansi_calls::restyles::{
-    RangeEntry, insert, mark, matches, remove, replace, replace_all, restyle,
+    RangeEntry, insert, mark, matches, refused_range, remove, replace, replace_all, restyle,
 };
 use one_block::{MemoryBlock, OneBlock};
 
@@ -38,6 +38,19 @@ pub extern "C" fn ansi_str_raw_restyle(
 {
     let block = OneBlock::new(memory);
     restyle(&arena_of(&block), text, entries, codes, buffer)
+}
+
+/// The index of the first range that `ansi_str_raw_restyle` and `ansi_str_raw_replace_each` refuse.
+#[unsafe(no_mangle)]
+pub extern "C" fn ansi_str_raw_refused_range(
+    memory: MemoryBlock,
+    text: &[u8],
+    entries: &[RangeEntry],
+) -> Answer
+    ensures { FindsRefused text.now entries.now result }
+{
+    let block = OneBlock::new(memory);
+    refused_range(&arena_of(&block), text, entries)
 }
 
 /// The text with SGR codes applied to each match of a pattern.

@@ -1,6 +1,7 @@
 mod Examples
 pub mod LineLemmas
 pub mod WordLemmas
+pub mod StageLemmas
 pub mod TailLemmas
 pub mod Shown
 pub mod Viewed

@@ -1,15 +1,13 @@
 -- What changes make of a text shows what they make of its row.
-use Rattle.std.proofs.Common.{◌≡◌, ℕ, ◌==◌, Bool, true, false, not, ◌||◌, List, [], ◌∷◌, ◌++◌, map, flat_map, fold, refl, sym, ◌∙◌, ap, ap₂, subst, arith}
-use Rattle.std.specs.List.{AllByRecursion, list_all, list_any}
+use Rattle.std.proofs.Common.{◌≡◌, ℕ, ◌==◌, true, false, not, ◌||◌, List, [], ◌∷◌, ◌++◌, map, flat_map, fold, refl, sym, ◌∙◌, ap, ap₂, subst, arith}
+use Rattle.std.specs.List.{AllByRecursion, list_all}
 use Rattle.std.specs.Prelude.{chars}
 use Rattle.std.specs.Str.{IsUtf8, byte}
-use Rattle.std.proofs.lemmas.Bool.{and_from, and_parts, or_from}
+use Rattle.std.proofs.lemmas.Bool.{and_from, and_parts}
 use Rattle.std.proofs.lemmas.Bool.Decides.{nat_tests}
 use Rattle.std.proofs.lemmas.List.{map-append}
 use Rattle.std.proofs.lemmas.List.Elements.{recursion_from_All}
-use Rattle.std.proofs.lemmas.List.Folds.{list_all-append}
 use Rattle.ansi_items.specs.Pieces.{Piece, Text, Sequence, LoneEscape, pieces_of}
-use Rattle.ansi_items.specs.Plain.{plain_of, plain_bytes}
 use Rattle.ansi_safe.specs.Cells.{cell, paragraph, placed, stays_in, piece_stays}
 use Rattle.ansi_safe.specs.Safe.{all_allowed}
 use Rattle.ansi_safe.proofs.CellLemmas.{placed-stays, placed_stays}
@@ -17,15 +15,13 @@ use Rattle.ansi_columns.specs.Edits as columns
 use Rattle.ansi_columns.specs.Lines as wrap
 use Rattle.ansi_columns.specs.Rows.{Row, row, cell_row, row_range, row_screen}
 use Rattle.ansi_columns.specs.Screens.{screen}
-use Rattle.ansi_columns.specs.Tabs.{piece_has_tab, expanded}
 use Rattle.ansi_columns.specs.Wrapped.{CarriedPart, wrapped}
 use Rattle.ansi_columns.proofs.CleanLineLemmas.{CleanLine, clean-wrapped}
-use Rattle.ansi_columns.proofs.EditLemmas.{clean-stays, shown-changed, editing-begun, editing-step}
+use Rattle.ansi_columns.proofs.EditLemmas.{clean-stays, expanded-shown, cell_row-shown, shown-changed, row-changed}
 use Rattle.ansi_columns.proofs.IndentLawLemmas.{ShutLine, wrapped_are_shut}
-use Rattle.ansi_columns.proofs.OneLineLemmas.{clean-one_line, safe-paragraph}
+use Rattle.ansi_columns.proofs.OneLineLemmas.{safe-paragraph}
 use Rattle.ansi_columns.proofs.RowLemmas.{bytes-row, screen-row, row-lines}
 use Rattle.ansi_columns.proofs.SequenceLemmas.{good-utf8}
-use Rattle.ansi_columns.proofs.TabLemmas.{expanded-no_tab}
 use Rattle.ansi_columns.proofs.TailLemmas.{IsShown}
 use Rattle.ansi_view_runs.specs.Edits.{Change, OnColumns, Wrapped, HasUtf8Tail, changed}
 use Rattle.ansi_view_runs.specs.Promise.{changed_rows}
@@ -71,41 +67,7 @@ paragraph-shown t shown =
     let cell_stays = cell-shown t shown in
     search (stays-also, stays-further, utf8, cell_stays)
 
-abbrev on_line : ℕ → Bool
-on_line b = not (b == byte "\t" || b == byte "\n" || b == byte "\r")
-
-no_tab : (b : ℕ) → on_line b ≡ true → (b == byte "\t") ≡ false
-no_tab b is = grind (arith, nat_tests)
-
-none-in : (w : List ℕ) → list_all on_line w ≡ true → list_any (λ b. b == byte "\t") w ≡ false
-none-in [] all = refl
-none-in (b ∷ w) all = (let both = and_parts (on_line b) (list_all on_line w) all in or_from _ _ (no_tab b both.0) (none-in w both.1))
-
-pieces-without_tab : (ps : List Piece) → list_all on_line (plain_of ps) ≡ true → list_any piece_has_tab ps ≡ false
-pieces-without_tab [] all = refl
-pieces-without_tab (p ∷ ps) all =
-    let both = and_parts (list_all on_line (plain_bytes p)) (list_all on_line (plain_of ps)) (sym (list_all-append on_line (plain_bytes p) (plain_of ps)) ∙ all) in
-    or_from _ _ (none-in (plain_bytes p) both.0) (pieces-without_tab ps both.1)
-
-expanded-shown : (stop : ℕ) (t : List ℕ) → IsShown t → expanded stop t ≡ t
-expanded-shown stop t shown = expanded-no_tab stop t (pieces-without_tab (pieces_of t) (clean-one_line shown.clean))
-
 -- ---- a change of a text by columns shows what it makes of the row of its cell, and a wrap of the row of its paragraph
-
-row-of_cell : (t : List ℕ) → IsShown t → cell_row t ≡ row t
-row-of_cell t shown = ap row (cell-shown t shown)
-
-row-changed : (change : columns.Change) (t : List ℕ) → columns.HasUtf8Tail change → IsUtf8 t → columns.is_expansion change ≡ false → row (columns.changed change t) ≡ columns.changed_row change (cell_row t)
-row-changed change t tail utf8 other =
-    let step = editing-step (change ∷ []) t [] t utf8 change tail (editing-begun (change ∷ []) t) in
-    sym (row-of_cell (columns.changed change t) (shown-changed t utf8 change tail other)) ∙ step.shows ∙ by change other
-  where
-    by : (change : columns.Change) → columns.is_expansion change ≡ false → columns.edited_row (change ∷ []) t ≡ columns.changed_row change (cell_row t)
-    by (columns.Expanded stop) other = absurd (cc other)
-    by (columns.Sliced start end) other = refl
-    by (columns.Truncated side width tail) other = refl
-    by (columns.Padded width alignment) other = refl
-    by (columns.Fitted width alignment tail) other = refl
 
 abbrev pub AreShown : List (List ℕ) → Type 0
 AreShown ts = AllByRecursion IsShown ts
@@ -135,7 +97,7 @@ pub record AreMade (ts : List (List ℕ)) (rs : List Row) : Type 0 where
   pub rows : map row ts ≡ rs
 
 pub made-columns : (change : columns.Change) (t : List ℕ) → columns.HasUtf8Tail change → IsUtf8 t → columns.is_expansion change ≡ false → AreMade (changed (OnColumns change) t) (changed_rows (OnColumns change) (cell_row t))
-made-columns change t tail utf8 other = record { shown = (shown-changed t utf8 change tail other, tt); rows = ap (λ r. r ∷ []) (row-changed change t tail utf8 other) }
+made-columns change t tail utf8 other = record { shown = (shown-changed t utf8 change tail other, tt); rows = ap (λ r. r ∷ []) (row-changed t utf8 change tail other) }
 
 pub made-wrapped : (width : ℕ) (t : List ℕ) → IsUtf8 t → AreMade (changed (Wrapped width) t) (changed_rows (Wrapped width) (row (paragraph t)))
 made-wrapped width t utf8 = record { shown = shown-wrapped width t utf8; rows = rows-wrapped width t utf8 }
@@ -143,7 +105,7 @@ made-wrapped width t utf8 = record { shown = shown-wrapped width t utf8; rows = 
 -- of a text of a cell, closed
 made-other : (change : columns.Change) (t : List ℕ) → columns.HasUtf8Tail change → IsShown t → columns.is_expansion change ≡ false → AreMade (changed (OnColumns change) t) (changed_rows (OnColumns change) (row t))
 made-other change t tail shown other =
-    subst (λ r. AreMade (changed (OnColumns change) t) (changed_rows (OnColumns change) r)) (row-of_cell t shown) (made-columns change t tail (utf8-shown t shown) other)
+    subst (λ r. AreMade (changed (OnColumns change) t) (changed_rows (OnColumns change) r)) (cell_row-shown t shown) (made-columns change t tail (utf8-shown t shown) other)
 
 made-again : (change : Change) (t : List ℕ) → HasUtf8Tail change → IsShown t → AreMade (changed change t) (changed_rows change (row t))
 made-again (Wrapped width) t tail shown = subst (λ p. AreMade (changed (Wrapped width) t) (changed_rows (Wrapped width) (row p))) (paragraph-shown t shown) (made-wrapped width t (utf8-shown t shown))

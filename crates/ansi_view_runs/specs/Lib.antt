@@ -5,6 +5,7 @@ pub mod Views
 pub mod Promise
 pub mod LineViews
 pub mod Jobs
+pub mod SafeJobs
 pub mod Words
 pub mod Causes
 pub mod Stops

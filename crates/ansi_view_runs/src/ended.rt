@@ -1,49 +1,39 @@
 //! What edits make of a line, and its end.
-ghost use Rattle.std.specs.Prelude.{◌≡◌, ◌≤◌, ◌+◌, ◌*◌, ◌++◌, IfOk, length, string_bytes};
+ghost use Rattle.std.specs.Prelude.{◌≡◌, ◌≤◌, ◌+◌, ◌*◌, ◌++◌, [], ◌∷◌, IfOk, length, string_bytes};
 ghost use Rattle.std.specs.Cow.{cow_str_bytes};
 ghost use Rattle.std.specs.List.{join_by};
 ghost use Rattle.ansi_lines_runs.specs.Runs.{words_of};
-ghost use Rattle.ansi_view_runs.specs.Edits.{Wrapped, changes_of, changed};
+ghost use Rattle.ansi_view_runs.specs.SafeJobs.{changes_then, work_of};
 ghost use Rattle.ansi_view_runs.specs.Views.{changed_line, line_break};
 
-use crate::edits::{LineEdit, edit_in_turn, edit_up_to_wrap};
-use ansi_columns::wrap::{PushNext, has_next, wrap};
+use crate::edits::{Stage, push_edited};
+use crate::view::SafeJob;
+use ansi_columns::edits::{edit_and_wrap, edit_in_turn};
+use ansi_columns::wrap::PushNext;
+use ansi_columns::wrap::indents::{Wrap, has_next_with};
 use std::alloc::{AllocError, Allocator};
 use std::borrow::CowStr;
 
-/// What edits make of a text in turn, as lines, the last of which has this end. `Err` means out of
-/// memory.
+/// What a job makes of a text, as lines, the last of which has this end. `Err` means out of memory.
 pub(crate) fn edit_line<A: Allocator + Copy>(
     alloc: A,
-    edits: &[LineEdit<'_>],
+    job: &SafeJob<'_, A>,
     text: CowStr<'_, A>,
     end: &str,
 ) -> Result<String<A>, AllocError>
-    ensures { IfOk result (λ s.
-        string_bytes s ≡ changed_line (changes_of edits.now) (cow_str_bytes text.entry) end.now) }
+    ensures { IfOk result (λ s. string_bytes s
+        ≡ changed_line (work_of job.now).changes (cow_str_bytes text.entry) end.now) }
 {
-    let (edited, left) = edit_up_to_wrap(alloc, edits, text)?;
-    edit_further(alloc, left, edited, end)
-}
-
-/// Like `edit_line`, of a text that may be owned.
-pub(crate) fn edit_further<A: Allocator + Copy>(
-    alloc: A,
-    edits: &[LineEdit<'_>],
-    text: CowStr<'_, A>,
-    end: &str,
-) -> Result<String<A>, AllocError>
-    ensures { IfOk result (λ s.
-        string_bytes s ≡ changed_line (changes_of edits.now) (cow_str_bytes text.entry) end.now) }
-{
-    if edits.is_empty() {
-        return end_text(alloc, text, end);
+    let last = job.last.as_slice();
+    match job.stages.as_slice() {
+        [] => end_text(alloc, edit_in_turn(alloc, text, last)?, end),
+        [stage] if last.is_empty() => wrap_line(alloc, stage, text.as_str(), end),
+        stages => {
+            let mut texts = Vec::new(alloc);
+            push_edited(alloc, stages, last, text.as_str(), &mut texts)?;
+            join_lines(alloc, texts.as_slice(), end)
+        }
     }
-    if let [LineEdit::Wrap(width)] = edits {
-        return wrap_line(alloc, text.as_str(), *width, end);
-    }
-    let texts = edit_in_turn(alloc, edits, text.into_owned(alloc)?)?;
-    join_lines(alloc, texts.as_slice(), end)
 }
 
 /// A text and its end.
@@ -74,20 +64,21 @@ fn with_end<A: Allocator>(mut text: String<A>, end: &str) -> Result<String<A>, A
     Ok(text)
 }
 
-// The lines of a text wrapped at a width, the last of which has this end.
+// The lines of a text edited and wrapped, the last of which has this end.
 fn wrap_line<A: Allocator + Copy>(
     alloc: A,
+    stage: &Stage<'_, A>,
     text: &str,
-    width: usize,
     end: &str,
 ) -> Result<String<A>, AllocError>
     ensures { IfOk result (λ s. string_bytes s
-        ≡ join_by (λ t. t) (line_break end.now) (changed (Wrapped width) text.now) ++ end.now) }
+        ≡ changed_line (changes_then (stage.now ∷ []) []) text.now end.now) }
 {
-    let mut made = String::with_capacity(alloc, room_for_lines(text, width, end))?;
-    let mut lines = wrap(alloc, text, width);
+    let to = Wrap::at(stage.width);
+    let mut made = String::with_capacity(alloc, room_for_lines(text, stage.width, end))?;
+    let mut lines = edit_and_wrap(alloc, text, stage.edits.as_slice(), &to)?;
     lines.push_next(&mut made).transpose()?;
-    'lines: while has_next(&lines) {
+    'lines: while has_next_with(&lines) {
         made.push_str(line_break(end))?;
         lines.push_next(&mut made).transpose()?;
     }

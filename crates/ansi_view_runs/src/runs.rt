@@ -6,25 +6,25 @@ ghost use Rattle.std.specs.Cow.{cow_str_bytes};
 ghost use Rattle.std.specs.Io.KnownBytes.{append_known};
 ghost use Rattle.ansi_io.specs.Devices.{count_after, was_closed};
 ghost use Rattle.ansi_lines_runs.specs.Runs.{words_of};
-ghost use Rattle.ansi_view_runs.specs.Edits.{changes_of};
 ghost use Rattle.ansi_view_runs.specs.Lines.{max_piece, HasNoLineFeed};
-ghost use Rattle.ansi_view_runs.specs.Jobs.{work_of};
+ghost use Rattle.ansi_view_runs.specs.Jobs as jobs;
 ghost use Rattle.ansi_view_runs.specs.LineViews.{line_of};
 ghost use Rattle.ansi_view_runs.specs.Runs.{to_come, Shows, ShowsBeginning, StopsWriting};
 ghost use Rattle.ansi_view_runs.specs.Runs.{KeepsFlags, MostFlushes, StopsReading};
 ghost use Rattle.ansi_view_runs.specs.Runs.{ViewsAll, ViewsBeginning, ViewsFront};
+ghost use Rattle.ansi_view_runs.specs.SafeJobs.{work_of};
 ghost use Rattle.ansi_view_runs.specs.Stops.{message_of};
 ghost use Rattle.ansi_view_runs.specs.Views.{changed_line, decoded, opening_after, viewed};
 ghost use Rattle.ansi_view_runs.specs.Views.{with_safe_tails};
 ghost use Rattle.ansi_view_runs.specs.Words.{bad_word, message_of_word, view_asked};
 
-use crate::edits::{LineEdit, edit_up_to_wrap};
-use crate::ended::{edit_further, end_text};
+use crate::ended::{edit_line, end_text};
 use crate::lines::{Line, split_first};
 use crate::stop::{OUT_OF_MEMORY, Stop, write_message};
 use crate::tails::{safe_job, safe_tails};
-use crate::view::{Job, as_decoded, decode_tested, edits_nothing, stays, view_decoded};
+use crate::view::{Job, SafeJob, as_decoded, decode_tested, edits_nothing, stays, view_decoded};
 use crate::words::parse;
+use ansi_columns::edits::edit_in_turn;
 use ansi_io::devices::{ReadFault, Sink, Source, WriteFault};
 use ansi_safe::policy::{Links, Policy, Rest};
 use ansi_safe::safe::sanitize;
@@ -54,7 +54,7 @@ pub struct Held<A: Allocator> {
 // written at once.
 fn write_line<A: Allocator + Copy, W: Sink>(
     alloc: A,
-    job: &Job<'_, A>,
+    job: &SafeJob<'_, A>,
     opening: &mut String<A>,
     line: &Line<'_>,
     read: &[u8],
@@ -91,7 +91,7 @@ fn write_line<A: Allocator + Copy, W: Sink>(
 // Like `write_line`, of a line whose bytes are decoded already, and always at once.
 fn write_text<A: Allocator + Copy, W: Sink>(
     alloc: A,
-    job: &Job<'_, A>,
+    job: &SafeJob<'_, A>,
     opening: &mut String<A>,
     line: &Line<'_>,
     text: CowStr<'_, A>,
@@ -110,7 +110,7 @@ fn write_text<A: Allocator + Copy, W: Sink>(
         (W.closed output.old) (W.closed output.new) (W.taken output.new ≡ W.taken output.old)) }
 {
     if stays(job.view, opening.as_str(), line, text.as_str()) {
-        return write_edited(alloc, job.edits.as_slice(), text, line.end, read, output);
+        return write_edited(alloc, job, text, line.end, read, output);
     }
     let viewed = view_decoded(alloc, job, opening, line, text.as_str())?;
     output.write(viewed.as_bytes())?;
@@ -122,25 +122,26 @@ fn write_text<A: Allocator + Copy, W: Sink>(
 #[inline(always)]
 fn write_edited<A: Allocator + Copy, W: Sink>(
     alloc: A,
-    edits: &[LineEdit<'_>],
+    job: &SafeJob<'_, A>,
     text: CowStr<'_, A>,
     end: &str,
     read: &[u8],
     output: &mut W,
 ) -> Result<(), Stop>
     ensures taken { OnOk result (W.taken output.new ≡ append_known (W.taken output.old)
-        (changed_line (changes_of edits.now) (cow_str_bytes text.entry) end.now)) }
+        (changed_line (work_of job.now).changes (cow_str_bytes text.entry) end.now)) }
     ensures flushes { W.flushes output.new ≡ W.flushes output.old }
     ensures flags { OnOk result (KeepsFlags (W.failed output.old) (W.failed output.new)
         (W.closed output.old) (W.closed output.new)) }
     ensures stopped { IfErr result (StopsWriting (W.failed output.old) (W.failed output.new)
         (W.closed output.old) (W.closed output.new) (W.taken output.new ≡ W.taken output.old)) }
 {
-    let (edited, left) = edit_up_to_wrap(alloc, edits, text)?;
-    if left.is_empty() {
+    let stages = job.stages.as_slice();
+    if stages.is_empty() {
+        let edited = edit_in_turn(alloc, text, job.last.as_slice())?;
         return write_at_once(alloc, edited, end, read, output);
     }
-    let lines = edit_further(alloc, left, edited, end)?;
+    let lines = edit_line(alloc, job, text, end)?;
     output.write(lines.as_bytes())?;
     Ok(())
 }
@@ -198,7 +199,7 @@ fn write_ended<W: Sink>(text: &str, end: &str, output: &mut W) -> Result<(), Wri
 // Writes what each line and piece becomes that these bytes decide, and returns the other bytes.
 fn write_lines<'t, A: Allocator + Copy, W: Sink>(
     alloc: A,
-    job: &Job<'_, A>,
+    job: &SafeJob<'_, A>,
     opening: &mut String<A>,
     bytes: &'t [u8],
     output: &mut W,
@@ -229,7 +230,7 @@ fn write_lines<'t, A: Allocator + Copy, W: Sink>(
 /// passes all on. At most 1 MiB is held after it.
 pub fn take_bytes<A: Allocator + Copy, W: Sink>(
     alloc: A,
-    job: &Job<'_, A>,
+    job: &SafeJob<'_, A>,
     held: &mut Held<A>,
     bytes: &[u8],
     output: &mut W,
@@ -264,7 +265,7 @@ pub fn take_bytes<A: Allocator + Copy, W: Sink>(
 // Writes what the bytes held become, a line without an end, and passes all on.
 fn write_last<A: Allocator + Copy, W: Sink>(
     alloc: A,
-    job: &Job<'_, A>,
+    job: &SafeJob<'_, A>,
     held: &mut Held<A>,
     output: &mut W,
 ) -> Result<(), Stop>
@@ -292,7 +293,7 @@ fn write_last<A: Allocator + Copy, W: Sink>(
 // Writes what the whole input becomes, and passes on what each read decides before the next read.
 fn view_all<A: Allocator + Copy, S: Source, W: Sink>(
     alloc: A,
-    job: &Job<'_, A>,
+    job: &SafeJob<'_, A>,
     input: &mut S,
     output: &mut W,
 ) -> Result<(), Stop>
@@ -349,7 +350,7 @@ fn view_safely<A: Allocator + Copy, S: Source, W: Sink>(
     input: &mut S,
     output: &mut W,
 ) -> Result<(), Stop>
-    ensures done { OnOk result (ViewsAll (with_safe_tails (work_of job.now)) (S.left input.old) (W.taken output.old)
+    ensures done { OnOk result (ViewsAll (with_safe_tails (jobs.work_of job.now)) (S.left input.old) (W.taken output.old)
         (W.taken output.new)) }
     ensures flushed { OnOk result (W.flushed output.new ≡ W.taken output.new) }
     ensures unfailed { OnOk result (S.failed input.new ≡ S.failed input.old) }
@@ -357,7 +358,7 @@ fn view_safely<A: Allocator + Copy, S: Source, W: Sink>(
         (W.closed output.old) (W.closed output.new)) }
     ensures read_failed { IsErrOf result Stop.ReadFailed →
         StopsReading (S.failed input.new) (S.reads input.new)
-        × ViewsFront (with_safe_tails (work_of job.now)) (S.left input.old) (W.taken output.old) (W.taken output.new)
+        × ViewsFront (with_safe_tails (jobs.work_of job.now)) (S.left input.old) (W.taken output.old) (W.taken output.new)
         × (W.flushed output.new ≡ W.taken output.new)
         × KeepsFlags (W.failed output.old) (W.failed output.new) (W.closed output.old)
         (W.closed output.new) }
@@ -366,7 +367,7 @@ fn view_safely<A: Allocator + Copy, S: Source, W: Sink>(
     ensures write_failed { IsErrOf result Stop.WriteFailed →
         (W.failed output.new ≡ true) × (W.closed output.new ≡ W.closed output.old) }
     ensures out_of_memory { IsErrOf result Stop.OutOfMemory →
-        ViewsBeginning (with_safe_tails (work_of job.now)) (S.left input.old) (W.taken output.old)
+        ViewsBeginning (with_safe_tails (jobs.work_of job.now)) (S.left input.old) (W.taken output.old)
         (W.taken output.new) × KeepsFlags (W.failed output.old) (W.failed output.new)
         (W.closed output.old) (W.closed output.new) }
     ensures most_flushes { MostFlushes (S.reads input.old) (S.reads input.new)

@@ -4,12 +4,13 @@ ghost use Rattle.ansi_safe.specs.Sanitized.{sanitized};
 ghost use Rattle.ansi_lines_runs.specs.Runs.{words_of};
 ghost use Rattle.ansi_columns.specs.Edits as columns;
 ghost use Rattle.ansi_view_runs.specs.Edits.{OnColumns, change_of, changes_of};
-ghost use Rattle.ansi_view_runs.specs.Edits.{tail_of, with_tail, with_tails};
-ghost use Rattle.ansi_view_runs.specs.Jobs.{work_of};
+ghost use Rattle.ansi_view_runs.specs.Edits.{tail_of, with_tail};
+ghost use Rattle.ansi_view_runs.specs.Jobs as jobs;
+ghost use Rattle.ansi_view_runs.specs.SafeJobs.{work_of};
 ghost use Rattle.ansi_view_runs.specs.Views.{with_safe_tails};
 
-use crate::edits::LineEdit;
-use crate::view::Job;
+use crate::edits::{LineEdit, Stage};
+use crate::view::{Job, SafeJob};
 use ansi_columns::ColumnEdit;
 use ansi_safe::policy::Policy;
 use ansi_safe::safe::sanitize;
@@ -34,43 +35,41 @@ pub(crate) fn safe_tails<A: Allocator + Copy>(
 }
 
 /// A job with these tails of its edits, which are made safe. `Err` means out of memory.
-pub(crate) fn safe_job<'t, A: Allocator>(
+pub(crate) fn safe_job<'t, A: Allocator + Copy>(
     alloc: A,
     job: &Job<'_, A>,
     tails: &'t [String<A>],
-) -> Result<Job<'t, A>, AllocError>
+) -> Result<SafeJob<'t, A>, AllocError>
     requires { words_of tails.now ≡ map (λ change. sanitized job.now.view.policy (tail_of change))
         (changes_of job.now.edits.items) }
-    ensures { IfOk result (λ made. work_of made ≡ with_safe_tails (work_of job.now)) }
+    ensures { IfOk result (λ made. work_of made ≡ with_safe_tails (jobs.work_of job.now)) }
 {
-    let edits = with_tails(alloc, job.edits.as_slice(), tails)?;
-    Ok(Job {
-        view: job.view,
-        edits,
-    })
-}
-
-// Edits with these tails in place of theirs, one for each.
-fn with_tails<'t, A: Allocator>(
-    alloc: A,
-    edits: &[LineEdit<'_>],
-    tails: &'t [String<A>],
-) -> Result<Vec<LineEdit<'t>, A>, AllocError>
-    ensures { IfOk result (λ made. changes_of made.items
-        ≡ with_tails (words_of tails.now) (changes_of edits.now)) }
-{
-    let mut made = Vec::new(alloc);
-    let mut left = edits;
+    let mut stages = Vec::new(alloc);
+    let mut edits = Vec::new(alloc);
+    let mut left = job.edits.as_slice();
     let mut tails_left = tails;
     while let [edit, more @ ..] = left {
         let [tail, more_tails @ ..] = tails_left else {
-            return Ok(made);
+            break;
         };
-        made.push(with_tail(edit, tail.as_str()))?;
+        match edit {
+            LineEdit::Columns(edit) => edits.push(with_column_tail(edit, tail.as_str()))?,
+            LineEdit::Wrap(width) => {
+                stages.push(Stage {
+                    edits,
+                    width: *width,
+                })?;
+                edits = Vec::new(alloc);
+            }
+        }
         left = more;
         tails_left = more_tails;
     }
-    Ok(made)
+    Ok(SafeJob {
+        view: job.view,
+        stages,
+        last: edits,
+    })
 }
 
 // The tail of an edit, or an empty one.
@@ -81,16 +80,6 @@ fn tail_of<'w>(edit: &LineEdit<'w>) -> &'w str
         LineEdit::Columns(ColumnEdit::Truncate { tail, .. }) => tail,
         LineEdit::Columns(ColumnEdit::Fit { tail, .. }) => tail,
         _ => "",
-    }
-}
-
-// An edit with this tail in place of its own, if it has one.
-fn with_tail<'t>(edit: &LineEdit<'_>, tail: &'t str) -> LineEdit<'t>
-    ensures { change_of result ≡ with_tail tail.now (change_of edit.now) }
-{
-    match edit {
-        LineEdit::Columns(edit) => LineEdit::Columns(with_column_tail(edit, tail)),
-        LineEdit::Wrap(width) => LineEdit::Wrap(*width),
     }
 }
 

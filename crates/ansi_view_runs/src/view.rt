@@ -9,15 +9,16 @@ ghost use Rattle.ansi_style.specs.States.{rendition_of};
 ghost use Rattle.ansi_style.specs.Written.{start};
 ghost use Rattle.ansi_safe.specs.Links.{ending};
 ghost use Rattle.ansi_safe.specs.Safe.{is_safe};
-ghost use Rattle.ansi_view_runs.specs.Jobs.{work_of};
+ghost use Rattle.ansi_view_runs.specs.SafeJobs.{work_of};
 ghost use Rattle.ansi_view_runs.specs.LineViews.{line_of};
 ghost use Rattle.ansi_view_runs.specs.Views.{decoded, opening_of, opening_after, viewed};
 ghost use Rattle.ansi_view_runs.specs.Views.{shown};
 ghost use Rattle.ansi_safe.specs.Sanitized.{cleaned, sanitized};
 
-use crate::edits::LineEdit;
+use crate::edits::{LineEdit, Stage};
 use crate::ended::edit_line;
 use crate::lines::Line;
+use ansi_columns::ColumnEdit;
 use ansi_safe::links::{LONGEST_ENDING, Pen, pen_after};
 use ansi_safe::policy::{Links, Policy};
 use ansi_safe::safe::{ending_if_safe, pen_if_safe, push_cleaned};
@@ -46,6 +47,17 @@ pub struct Job<'w, A: Allocator> {
     pub edits: Vec<LineEdit<'w>, A>,
 }
 
+/// A job with safe tails, whose edits by columns are in lists between its wraps.
+#[derive(Drop)]
+pub struct SafeJob<'t, A: Allocator> {
+    /// How each line is made safe.
+    pub view: View,
+    /// What is made of it then, up to each wrap.
+    pub stages: Vec<Stage<'t, A>, A>,
+    /// What is made of each text after the last wrap.
+    pub last: Vec<ColumnEdit<'t>, A>,
+}
+
 /// The bytes that a line becomes, with its end. A line may become several. `text` is what its text
 /// is decoded to.
 ///
@@ -53,7 +65,7 @@ pub struct Job<'w, A: Allocator> {
 /// memory; `opening` may then be anything.
 pub(crate) fn view_decoded<A: Allocator + Copy>(
     alloc: A,
-    job: &Job<'_, A>,
+    job: &SafeJob<'_, A>,
     opening: &mut String<A>,
     line: &Line<'_>,
     text: &str,
@@ -69,7 +81,7 @@ pub(crate) fn view_decoded<A: Allocator + Copy>(
         text.push_str(line.end)?;
         return Ok(text);
     }
-    edit_line(alloc, job.edits.as_slice(), CowStr::Owned(text), line.end)
+    edit_line(alloc, job, CowStr::Owned(text), line.end)
 }
 
 // The text of a line whose bytes are decoded, made safe. `opening` is as for `view_decoded`.
@@ -104,10 +116,10 @@ pub(crate) fn stays(view: View, opening: &str, line: &Line<'_>, text: &str) -> b
 }
 
 /// Whether a job has no edits.
-pub(crate) fn edits_nothing<A: Allocator>(job: &Job<'_, A>) -> bool
+pub(crate) fn edits_nothing<A: Allocator>(job: &SafeJob<'_, A>) -> bool
     ensures { result ≡ true → (work_of job.now).changes ≡ [] }
 {
-    job.edits.is_empty()
+    job.stages.is_empty() && job.last.is_empty()
 }
 
 // Whether a text is safe and leaves nothing open.

@@ -41,7 +41,7 @@ The calls, each of which has an example in its own help, such as `help(ansi_str.
 
 The classes, each with a help of its own: `Block` and `Style`, which `blocks` returns, `Link`, which `links` returns, `Pen`, which
 `pen_after` returns; the edits `Cut`, `Left`, `Right`, `Part`, `Prefix`, `Suffix` and `Trim`; and the edits by columns `Expand`,
-`Slice`, `Truncate`, `Pad` and `Fit`. `import *` leaves them out.
+`Slice`, `Truncate`, `Pad` and `Fit`. `import *` leaves them out. `Style.of` returns the style that codes select.
 
 >>> log = "\\x1b[31mred\\x1b[39m and plain"
 >>> strip(log)
@@ -466,8 +466,8 @@ def wrap(text: str, width: int, first_indent: str = "", indent: str = "") -> Lis
 
 
 def lines(text: str, width: int) -> List[Tuple[int, int]]:
-    """Where each line that `wrap` returns begins and ends in the plain text, as positions, if `wrap` leaves nothing out and the
-    text has no TAB. Otherwise a control has one column. The text can be cut there.
+    """Where each line of the text begins and ends in the plain text, as positions, if it is wrapped to a width in columns of what
+    is shown. A TAB is a blank, and other controls have no column; those at the end of a line are left out. The text can be cut there.
 
     >>> lines("ab \\x1b[1mcd  efg", 5)
     [(0, 5), (7, 10)]
@@ -911,6 +911,36 @@ class Style(NamedTuple):
         """
         return codes(foreground=self.foreground, background=self.background, underline_color=self.underline_color,
                      font=self.font, **{name: True for name in self.attributes})
+
+    @staticmethod
+    def of(style: Union[str, "Style"]) -> "Style":
+        """The style that SGR codes select: as an SGR has them, or as the function `codes` makes them. ValueError: they have anything
+        but digits, `;` and `:`.
+
+        >>> Style.of("1;31").foreground
+        'Red'
+        """
+        return blocks("\x1b[" + _given_codes(style).decode() + "m" + _CELL)[0].style
+
+    def union(self, other: "Style") -> "Style":
+        """What is set in either style. A color or a font of the other is taken before that of this one.
+
+        >>> Style.of("1;31").union(Style.of("34")).codes
+        '1;34'
+        """
+        # (the codes of a style only set)
+        return Style.of(";".join(filter(None, (self.codes, other.codes))))
+
+    def difference(self, other: "Style") -> "Style":
+        """What is set in this style and isn't set so in the other: no attribute, color or font that both have.
+
+        >>> Style.of("1;31").difference(Style.of("31")).codes
+        '1'
+        """
+        mine, others = Style.of(self), Style.of(other)
+        parts = ("foreground", "background", "underline_color", "font")
+        return Style.of(mine._replace(attributes=mine.attributes - others.attributes,
+                                      **{part: None for part in parts if getattr(mine, part) == getattr(others, part)}).codes)
 
 
 class Block(NamedTuple):

@@ -552,6 +552,23 @@ pub(crate) fn lines(text: &str, most: usize) -> Vec<Range<usize>> {
     lines
 }
 
+/// The lines of what is shown of a text, as the least places in the text before which as much is shown.
+fn shown_lines(plain: &str, most: usize) -> Vec<Range<usize>> {
+    let mut shown = String::new();
+    let mut places = vec![0];
+    for (start, character) in plain.char_indices() {
+        match character {
+            '\n' => shown.push('\n'),
+            '\t' => shown.push(' '),
+            _ if Class::of(character) != Class::Control => shown.push(character),
+            _ => {}
+        }
+        places.resize(shown.len() + 1, start + character.len_utf8());
+    }
+    let given = |line: Range<usize>| places[line.start]..places[line.end];
+    lines(&shown, most).into_iter().map(given).collect()
+}
+
 /// The lines of a wrap. A sequence belongs to the first line that doesn't end before it, or to the last line.
 fn wrapped(text: &Text, lines: &[Range<usize>]) -> Vec<String> {
     let mut before: Option<usize> = None;
@@ -600,7 +617,7 @@ fn expect_lines(tally: &mut Tally, spelled: &str) {
     let clean = paragraph(spelled);
     let clean = Text::new(&clean);
     for most in 0..6 {
-        let want = lines(&text.plain, most);
+        let want = shown_lines(&text.plain, most);
         tally.expect(
             spelled.ansi_lines(most).collect::<Vec<_>>(),
             want,

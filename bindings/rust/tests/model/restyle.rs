@@ -3,7 +3,7 @@
 use crate::style::Style;
 use crate::text::{Kind, Text};
 use crate::{compare, short_texts, Tally, STYLED_PIECES};
-use ansi_str::restyle::AnsiRestyle;
+use ansi_str::restyle::{refused_range, AnsiRestyle};
 use std::borrow::Cow;
 use std::ops::Range;
 
@@ -75,6 +75,8 @@ pub(crate) fn expect_made(
 fn expect_restyled(tally: &mut Tally, spelled: &str, text: &Text, ranges: &[Range<usize>]) {
     let is_good = are_in_turn(&text.plain, ranges);
     let are_empty = ranges.iter().all(|range| range.start == range.end);
+    let refused = (0..ranges.len()).find(|&last| !are_in_turn(&text.plain, &ranges[..=last]));
+    tally.expect(refused_range(spelled, ranges), refused, (ranges, spelled));
     for codes in ["1;31", "0", "22;99"] {
         let want = is_good.then(|| restyled(text, ranges, codes));
         let got = spelled.ansi_restyle(ranges, codes);
@@ -100,7 +102,7 @@ fn expect_ranges(tally: &mut Tally, spelled: &str) {
 
 #[test]
 fn ranges_are_restyled_as_defined() {
-    assert_eq!(compare(&STYLED_PIECES, 3, expect_ranges), 1_125_411);
+    assert_eq!(compare(&STYLED_PIECES, 3, expect_ranges), 1_372_953);
 }
 
 /// What patterns are made of.

@@ -1,5 +1,5 @@
 //! Wrapped lines with an indent before each.
-ghost use Rattle.std.specs.Prelude.{◌≡◌, ◌+◌, ◌++◌, [], map, All, IsTrue, IsFalse};
+ghost use Rattle.std.specs.Prelude.{◌≡◌, ◌↔◌, ◌+◌, ◌++◌, [], map, All, IsTrue, IsFalse};
 ghost use Rattle.std.specs.Prelude.{IsOk, IfOk, OnOk, OnErr};
 ghost use Rattle.std.specs.Prelude.{string_bytes};
 ghost use Rattle.std.specs.Cow.{cow_str_bytes};
@@ -103,6 +103,9 @@ fn indent_width(indent: &str) -> usize
     ensures columns { result ≡ columns (plain (cell indent.now)) }
     ensures utf8 { IsUtf8 indent.now }
 {
+    if indent.is_empty() {
+        return 0;
+    }
     widths::width(indent, View::Shown)
 }
 
@@ -184,6 +187,13 @@ pub(crate) fn wrap_edited<'t, 'a, A: Allocator + Copy>(
         next_indent: to.first_indent,
         indent: to.indent,
     }
+}
+
+/// Like [`has_next`], of lines with indents. (Own.)
+pub fn has_next_with<A: Allocator>(lines: &AnsiWrapWith<'_, '_, A>) -> bool
+    ensures { IsFalse result ↔ (lines.now ≡ []) }
+{
+    has_next(&lines.lines)
 }
 
 impl<'t, 'a, A: Allocator + Copy> Iterator for AnsiWrapWith<'t, 'a, A> {

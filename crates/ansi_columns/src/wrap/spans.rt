@@ -18,6 +18,7 @@ ghost use Rattle.ansi_columns.specs.declared.wrap.spans.Next.TheVariants.{At};
 
 use crate::lines::first_line;
 use crate::plain_cells::plain_cell;
+use crate::views::View;
 use crate::walks::Walk;
 use crate::wrap::pens::PenAt;
 use ansi_safe::links::{Pen, plain_pen};
@@ -236,7 +237,7 @@ impl Spans {
         ensures lines { lines_after text.now self.old (At from)
             ≡ result ∷ span_lines text.now self.new }
     {
-        let (start, end, later) = first_line(text, from, self.width);
+        let (start, end, later) = first_line(text, from, self.width, View::Given);
         // The last line takes all that is left.
         let (taken, next) = match later {
             Some(walk) => (end.offset, Next::At(walk)),

@@ -196,6 +196,10 @@ fn lines_example(rt: HostRuntime) {
     assert!(rt; lines.next() == Some((0, 5)));
     assert!(rt; lines.next() == Some((7, 10)));
     assert!(rt; lines.next() == None);
+    let mut lines = Lines::new("a\x07b\tc", 2);
+    assert!(rt; lines.next() == Some((0, 3)));
+    assert!(rt; lines.next() == Some((4, 5)));
+    assert!(rt; lines.next() == None);
 }
 
 #[test]

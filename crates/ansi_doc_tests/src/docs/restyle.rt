@@ -6,7 +6,7 @@ use ansi_restyle::remove::remove_in;
 use ansi_restyle::replace::{insert_in, replace_in};
 use ansi_restyle::replace_all::replace_all_in;
 use ansi_restyle::replace_each::{Replacement, replace_each_in};
-use ansi_restyle::restyle::{mark_in, restyle_in};
+use ansi_restyle::restyle::{mark_in, refused_range, restyle_in};
 use ansi_restyle::styles::{codes_of, difference, style_of, union};
 use ansi_str::Color;
 use std::test::Fail;
@@ -33,6 +33,13 @@ fn mark_in_example(rt: HostRuntime) {
     assert!(rt;
         matches!(&marked, Ok(Some(marked)) if marked.as_str() == "a \x1b[1m\x1b[7mmat\x1b[22m\x1b[27m\x1b[1m\x1b[0m\x1b[7mch\x1b[27m")
     );
+}
+
+#[test]
+fn refused_range_example(rt: HostRuntime) {
+    assert!(rt; refused_range("\x1b[31mred", &[(0, 1), (1, 3)]).is_none());
+    assert!(rt; refused_range("\x1b[31mred", &[(0, 2), (1, 3)]) == Some(1));
+    assert!(rt; refused_range("\x1b[31mred", &[(0, 4), (5, 6)]) == Some(0));
 }
 
 #[test]

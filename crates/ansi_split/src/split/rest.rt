@@ -1,6 +1,6 @@
 //! What is left of a text that is split.
 ghost use Rattle.std.specs.Prelude.{◌≡◌, ℕ, List, ◌++◌, ◌<◌, ◌≤◌, ◌+◌, length, take, drop, None};
-ghost use Rattle.std.specs.Prelude.{Some, IsFalse, IsTrue};
+ghost use Rattle.std.specs.Prelude.{Some, IsFalse, IsTrue, MatchResult};
 ghost use Rattle.std.specs.Option.{MatchOption};
 ghost use Rattle.std.specs.Str.{IsCharBoundary};
 ghost use Rattle.ansi_items.specs.Plain.{plain, has_escape};
@@ -9,6 +9,7 @@ ghost use Rattle.ansi_style.specs.Reading.{style_after_from};
 ghost use Rattle.ansi_style.specs.States.{rendition_of};
 ghost use Rattle.ansi_split.specs.Spans.{IsCutAtMatch};
 
+use ansi_items::ESC;
 use ansi_items::ansitok::{Kind, Scanner};
 use ansi_search::search;
 use ansi_style::state::Style;
@@ -30,7 +31,7 @@ pub(super) struct MatchSplit<'t> {
 /// What is left of a text, and how many bytes at its front are known to be plain. So if a run has
 /// many matches, its end isn't searched for at each of them.
 #[derive(Drop)]
-pub(super) struct Rest<'t> {
+pub(crate) struct Rest<'t> {
     text: &'t str,
     run_len: usize,
     ghost run_ends: { IsCharBoundary text.now run_len },
@@ -38,15 +39,16 @@ pub(super) struct Rest<'t> {
 }
 
 impl<'t> Rest<'t> {
-    /// All of the text. No byte of it is known to be plain.
+    /// All of the text. Its bytes before the first ESC are known to be plain.
     pub(super) fn new(text: &'t str) -> Self
         ensures { result.text.now ≡ text.entry.now }
     {
-        Rest { text, run_len: 0 }
+        let run_len = memchr(ESC, text.as_bytes()).unwrap_or(text.len());
+        Rest { text, run_len }
     }
 
     /// The text. Its first `run` bytes are known to be plain.
-    pub(super) fn with_run(text: &'t str, run_len: usize) -> Self
+    pub(crate) fn with_run(text: &'t str, run_len: usize) -> Self
         requires ends { IsCharBoundary text.now run_len }
         requires plain { IsFalse (has_escape (take run_len text.now)) }
         ensures { result.text.now ≡ text.entry.now }
@@ -54,18 +56,45 @@ impl<'t> Rest<'t> {
         Rest { text, run_len }
     }
 
-    pub(super) fn text(&self) -> &'t str
+    pub(crate) fn text(&self) -> &'t str
         ensures { result.now ≡ self.now.text.now }
     {
         self.text
     }
 
     /// How many bytes at the front are known to be plain.
-    pub(super) fn run_len(&self) -> usize
+    pub(crate) fn run_len(&self) -> usize
         ensures ends { IsCharBoundary self.now.text.now result }
         ensures plain { IsFalse (has_escape (take result self.now.text.now)) }
     {
         self.run_len
+    }
+
+    /// Whether all of the text is known to be plain.
+    pub(super) fn is_run(&self) -> bool
+        ensures { IsTrue result → self.now.run_len ≡ length self.now.text.now }
+    {
+        self.run_len == self.text.len()
+    }
+
+    /// The front of the run that ends where the first match begins that doesn't begin before `from`,
+    /// and the rest. `Err` means that no such match begins in the run; it gives the place from which
+    /// one is still to be searched for.
+    #[inline(always)]
+    pub(super) fn cut_in_run(&self, pat: &str, from: usize) -> Result<(&'t str, Rest<'t>), usize>
+        ensures { MatchResult result
+            (λ cut. IsCutAtMatch self.now.text.now pat.now from cut.0.now cut.1.text.now
+            × IsFalse (has_escape cut.0.now))
+            (λ later. (from ≤ later) × (self.now.run_len ≤ later) × (first_match_from (plain self.now.text.now) pat.now later
+            ≡ first_match_from (plain self.now.text.now) pat.now from)) }
+    {
+        let start = next_start(self.text, self.run_len, pat, from);
+        if self.run_len <= start {
+            return Err(start);
+        }
+        let (front, text) = self.text.split_at(start);
+        let run_len = self.run_len - start;
+        Ok((front, Rest { text, run_len }))
     }
 
     /// The text in two at the first match that doesn't begin before `from`. `style` is the style
@@ -80,17 +109,14 @@ impl<'t> Rest<'t> {
         ensures style { rendition_of style.new
             ≡ style_after_from (rendition_of style.old) result.front.now }
     {
-        let start = next_start(self.text, self.run_len, pat, from);
-        if start < self.run_len {
-            let (front, text) = self.text.split_at(start);
-            let run_len = self.run_len - start;
-            return MatchSplit {
+        match self.cut_in_run(pat, from) {
+            Ok((front, rest)) => MatchSplit {
                 front,
                 is_marked: false,
-                rest: Some(Rest { text, run_len }),
-            };
+                rest: Some(rest),
+            },
+            Err(start) => cut_from(self.text, pat, from, start, style),
         }
-        cut_from(self.text, pat, from, start, style)
     }
 }
 
@@ -161,6 +187,7 @@ fn cut_from<'t>(
 fn next_start(text: &str, run_len: usize, pat: &str, from: usize) -> usize
     requires ends { IsCharBoundary text.now run_len }
     requires plain { IsFalse (has_escape (take run_len text.now)) }
+    ensures later { from ≤ result }
     ensures same { first_match_from (plain text.now) pat.now result
         ≡ first_match_from (plain text.now) pat.now from }
     ensures here { result < run_len → first_match_from (plain text.now) pat.now from ≡ Some result }

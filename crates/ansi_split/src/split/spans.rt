@@ -9,9 +9,9 @@ ghost use Rattle.ansi_style.specs.Rendition.{plain_style};
 ghost use Rattle.ansi_style.specs.Writing.{KeepsText};
 ghost use Rattle.ansi_style.specs.Written.{longest_start_and_close};
 ghost use Rattle.ansi_split.specs.Splits.{IsCarriedPart};
-ghost use Rattle.ansi_split.specs.Spans.{parts_left};
+ghost use Rattle.ansi_split.specs.Spans.{parts_left, IsBareFirst};
 
-use crate::split::rest::Rest;
+use crate::split::cursors::Cursor;
 use crate::walks::PartWalk;
 use ansi_items::ESC;
 use ansi_items::ansitok::{Kind, Scanner};
@@ -22,7 +22,6 @@ use memchr::memchr;
 use std::alloc::{AllocError, Allocator};
 use std::borrow::CowStr;
 use std::marker::Model;
-use std::str::from_utf8_unchecked;
 
 /// What one part is written from. Contracts see it as that part.
 #[derive(Drop)]
@@ -53,6 +52,24 @@ impl<'t> Model for PartSpan<'t> {
 }
 
 impl<'t> PartSpan<'t> {
+    ghost use Rattle.ansi_style.specs.States.{rendition_of};
+    ghost use Rattle.ansi_split.specs.Spans.{span_part};
+
+    /// The span that is a text without ESC.
+    #[inline(always)]
+    pub(crate) fn of_run(text: &'t str, carried: Style) -> Self
+        requires { IsFalse (has_escape text.now) }
+        ensures { result ≡ span_part (rendition_of carried) text.now 0 }
+    {
+        PartSpan {
+            text,
+            is_marked: false,
+            skip: 0,
+            carried,
+            after: carried,
+        }
+    }
+
     /// The part: a borrow if it has no sequence and no style has to be written.
     pub(crate) fn write<A: Allocator>(&self, alloc: A) -> Result<CowStr<'t, A>, AllocError>
         ensures part { IfOk result (IsCarriedPart longest_start_and_close self.now) }
@@ -167,33 +184,22 @@ fn write_text<A: Allocator>(
 /// allocate.
 #[derive(Drop)]
 pub(crate) struct PartSpans<'t, 'p> {
-    /// What is left of the text: the match before and all after it.
-    rest: Rest<'t>,
+    /// What is left of the text.
+    at: Cursor<'t>,
     pat: &'p str,
-    /// How many plain bytes of `rest` are in no part: those of the match before.
-    skip: usize,
-    /// The least place in `rest` at which the next match may begin.
-    from: usize,
     /// The style that the parts before leave open.
     carried: Style,
-    finished: bool,
 }
 
 impl<'t, 'p> Model for PartSpans<'t, 'p> {
-    ghost use Rattle.std.specs.Prelude.{◌≤◌, List, [], if◌then◌else◌, IsTrue};
-    ghost use Rattle.ansi_items.specs.Plain.{plain};
-    ghost use Rattle.ansi_search.specs.Positions.{is_char_boundary};
+    ghost use Rattle.std.specs.Prelude.{List};
     ghost use Rattle.ansi_style.specs.States.{rendition_of};
     ghost use Rattle.ansi_split.specs.Splits.{CarriedPart};
-    ghost use Rattle.ansi_split.specs.Spans.{parts_left};
+    ghost use Rattle.ansi_split.specs.Cursors.{parts_at};
 
     ghost Value = { List CarriedPart };
 
-    ghost view = { λ s. if s.finished then []
-        else parts_left (rendition_of s.carried) s.rest.text.now s.pat.now s.skip s.from };
-
-    ghost invariant = { λ s.
-        IsTrue (is_char_boundary (plain s.rest.text.now) s.skip) × (s.skip ≤ s.from) };
+    ghost view = { λ s. parts_at (rendition_of s.carried) s.at s.pat.now };
 }
 
 impl<'t, 'p> PartSpans<'t, 'p> {
@@ -202,20 +208,30 @@ impl<'t, 'p> PartSpans<'t, 'p> {
         ensures { result ≡ parts_left plain_style text.now pat.now 0 0 }
     {
         PartSpans {
-            rest: Rest::new(text),
+            at: Cursor::new(text),
             pat,
-            skip: 0,
-            from: 0,
             carried: styles::plain_style(),
-            finished: false,
         }
+    }
+
+    /// The next part, if it is a stretch of the known plain run and no style is carried into it.
+    /// After `None` the same parts are left.
+    #[inline(always)]
+    pub(crate) fn next_bare(&mut self) -> Option<&'t str>
+        ensures { MatchOption result (self.new ≡ self.old)
+            (λ bare. IsBareFirst self.old bare.now self.new) }
+    {
+        if styles::has_any(&self.carried) {
+            return None;
+        }
+        self.at.next_in_run(self.pat)
     }
 
     /// No span is left after it.
     pub(crate) fn finish(&mut self)
         ensures { self.new ≡ [] }
     {
-        self.finished = true;
+        self.at.finished = true;
     }
 }
 
@@ -227,15 +243,10 @@ impl<'t> PartSpans<'t, 't> {
         requires { IsPartWalk walk.now }
         ensures { result ≡ parts_of_walk walk.now }
     {
-        let text = unsafe { from_utf8_unchecked(walk.rest) };
-        let pat = unsafe { from_utf8_unchecked(walk.pattern) };
         PartSpans {
-            rest: Rest::with_run(text, walk.run_len),
-            pat,
-            skip: walk.skip,
-            from: walk.from,
+            at: walk.cursor(),
+            pat: walk.pattern(),
             carried: walk.carried.style(),
-            finished: walk.finished,
         }
     }
 
@@ -245,13 +256,13 @@ impl<'t> PartSpans<'t, 't> {
         ensures left { parts_of_walk result ≡ self.now }
     {
         PartWalk {
-            rest: self.rest.text().as_bytes(),
+            rest: self.at.rest.text().as_bytes(),
             pattern: self.pat.as_bytes(),
-            run_len: self.rest.run_len(),
-            skip: self.skip,
-            from: self.from,
+            run_len: self.at.rest.run_len(),
+            skip: self.at.skip,
+            from: self.at.from,
             carried: StyleNumbers::of(&self.carried),
-            finished: self.finished,
+            finished: self.at.finished,
         }
     }
 }
@@ -267,27 +278,22 @@ impl<'t, 'p> Iterator for PartSpans<'t, 'p> {
 
     #[inline(always)]
     fn next(&mut self) -> Option<PartSpan<'t>> {
-        if self.finished {
+        if self.at.finished {
             return None;
         }
         let carried = self.carried;
-        let cut = self
-            .rest
-            .cut_at_match(self.pat, self.from, &mut self.carried);
+        let at = &self.at;
+        let cut = at.rest.cut_at_match(self.pat, at.from, &mut self.carried);
         let span = PartSpan {
             text: cut.front,
             is_marked: cut.is_marked,
-            skip: self.skip,
+            skip: self.at.skip,
             carried,
             after: self.carried,
         };
         match cut.rest {
-            Some(rest) => {
-                self.rest = rest;
-                self.skip = self.pat.len();
-                self.from = self.pat.len().max(1);
-            }
-            None => self.finished = true,
+            Some(rest) => self.at = Cursor::after_match(rest, self.pat),
+            None => self.at.finished = true,
         }
         Some(span)
     }

@@ -1,5 +1,6 @@
-use Rattle.ansi_blocks.proofs.Common.{rules, ◌≡◌, ◌∷◌, sym, ◌∙◌, ap, arith, Text, rendition_of, gives_text, gives_rest, gives_mark}
-use Rattle.ansi_blocks.proofs.BlockWalkLemmas.{run-begin, run-other, run-text}
+use Rattle.std.specs.Str.{IsCharBoundary}
+use Rattle.ansi_blocks.proofs.Common.{rules, ◌≡◌, ◌∷◌, length, sym, ◌∙◌, ap, subst, arith, Text, sequences_before, rendition_of, gives_text, gives_rest, gives_mark}
+use Rattle.ansi_blocks.proofs.BlockWalkLemmas.{run-begin, run-sgr, run-other, run-text, some_if_as_long}
 use Rattle.ansi_blocks.proofs.runs.first_styled_run.Goals as goal
 
 pub loop-item-init : goal.loop-item-init
@@ -8,7 +9,20 @@ loop-item-init c =
     record {
       text = ap (λ s. s.text) begins;
       so_far = rw begins (run-begin (rendition_of c.args.style.now) c.args.text.now);
+      boundary = search rules;
       within = omega arith;
+    }
+
+-- over an SGR
+pub loop-item-preserved-in-Sgr : goal.loop-item-preserved-in-Sgr
+loop-item-preserved-in-Sgr c =
+    let gives = c.in-Some.ensures.steps in
+    let same = c.loop-item.invariant.text in
+    record {
+      text = gives.text ∙ same;
+      so_far = run-sgr c.in-Some.item.end c.loop-item.invariant.so_far (gives_mark gives same c.range-piece.ensures.value (search rules)) c.in-Sgr.is gives.end c.apply.ensures;
+      boundary = subst (λ t. IsCharBoundary t c.in-Some.item.end) same gives.end_boundary;
+      within = omega (arith, gives.forward, gives.start, gives.end, c.loop-item.invariant.within);
     }
 
 -- over a sequence that is no SGR, or a lone escape
@@ -18,8 +32,9 @@ loop-item-preserved c =
     let same = c.loop-item.invariant.text in
     record {
       text = gives.text ∙ same;
-      so_far = run-other c.loop-item.invariant.so_far (gives_mark gives same c.range-piece.ensures.value (search rules)) (search rules);
-      within = omega (arith, gives.forward, c.range-piece.ensures.len, c.loop-item.invariant.within);
+      so_far = run-other c.in-Some.item.start c.in-Some.item.end c.loop-item.invariant.so_far (gives_mark gives same c.range-piece.ensures.value (search rules)) (search rules) gives.start gives.end c.range-piece.ensures.value (omega (arith, gives.forward, c.range-piece.ensures.len));
+      boundary = c.loop-item.invariant.boundary;
+      within = omega (arith, gives.forward, gives.start, gives.end, c.range-piece.ensures.len, c.loop-item.invariant.within);
     }
 
 -- at the run
@@ -28,8 +43,14 @@ returns-in-Text c =
     let gives = c.in-Some.ensures.steps in
     let same = c.loop-item.invariant.text in
     let first = gives_text gives same c.range-piece.ensures.value c.in-Text.is in
-    let run = run-text c.range_from.result.now c.loop-item.invariant.so_far (first ∙ ap (λ ps. Text c.range-piece.result.now ∷ ps) (sym (gives_rest gives same c.range_from.ensures.value))) in
-    record { none = tt; first = run.0; awaited = run.1 }
+    let so_far = c.loop-item.invariant.so_far in
+    let run = run-text c.range_from.result.now c.range-before.result.now so_far (first ∙ ap (λ ps. Text c.range-piece.result.now ∷ ps) (sym (gives_rest gives same c.range_from.ensures.value))) gives.start c.range-before.ensures.value (omega (arith, gives.start, so_far.within, c.range-before.ensures.len)) in
+    record {
+      none = tt;
+      first = run.0;
+      awaited = run.1;
+      together = rw c.then_some.ensures (some_if_as_long (length c.range-before.result.now) c.loop-item.len_before c.range-before.result (λ s. s.now ≡ sequences_before c.args.text.now 0) run.2);
+    }
 
 -- at the end there is none
 pub returns-clause-first : goal.returns-clause-first

@@ -3,10 +3,11 @@ use Rattle.std.proofs.lemmas.List.{length_push, length-map, map-append}
 use Rattle.ansi_items.specs.Plain.{plain}
 use Rattle.ansi_items.proofs.PlainLemmas.{length-plain}
 use Rattle.ansi_items.proofs.Utf8Lemmas.{IsUtf8-plain}
-use Rattle.ansi_columns.specs.Columns.{clusters}
-use Rattle.ansi_columns.specs.Lines.{lines}
+use Rattle.ansi_columns.specs.Columns.{clusters, lined}
+use Rattle.ansi_columns.specs.Lines.{lines, place_line}
 use Rattle.ansi_columns.proofs.FirstFitLawLemmas.{first_fit-unique}
 use Rattle.ansi_columns.proofs.FirstFitLemmas.{lines-first_fit}
+use Rattle.ansi_columns.proofs.ShownLineLemmas.{lined-length, lined-utf8}
 use Rattle.ansi_calls.specs.Columns.{line_entry}
 use Rattle.ansi_calls.proofs.GivenLemmas.{written-more}
 use Rattle.ansi_calls.proofs.LineListLemmas.{few-lines_of}
@@ -16,10 +17,11 @@ use Rattle.ansi_calls.proofs.lines.copy_lines.Goals as goal
 pub loop-line-init : goal.loop-line-init
 loop-line-init c =
     let x = plain c.args.text.now in
+    let are = c.new-line-items.ensures.first_fit in
     record {
       can = tt;
       finite = tt;
-      copied = ([], c.into_iter-line-iterator.ensures.into_iter_gives ∙ first_fit-unique c.args.width (clusters x) c.new-line-items.result (lines c.args.width x) c.new-line-items.ensures.first_fit (lines-first_fit c.args.width x), refl, λ room. refl);
+      copied = ([], c.into_iter-line-iterator.ensures.into_iter_gives ∙ are.places ∙ ap (map (place_line x)) (first_fit-unique c.args.width (clusters (lined x)) are.shown (lines c.args.width (lined x)) are.first_fit (lines-first_fit c.args.width (lined x))), refl, λ room. refl);
     }
 
 -- there is at most one line more than the text has bytes
@@ -28,7 +30,18 @@ put-count-requires c =
     let t = c.args.text.now in
     let so_far = c.loop-line.invariant.copied in
     let all = ap (λ ls. so_far.0 ++ ls) (sym c.in-Some.ensures.steps) ∙ so_far.1 in
-    omega (arith, so_far.2, ap length all, length-append so_far.0 (c.in-Some.line ∷ c.next.new.self), few-lines_of (plain t) c.args.width (IsUtf8-plain t c.utf8.text), length-plain t)
+    let x = plain t in
+    let utf8 = IsUtf8-plain t c.utf8.text in
+    omega (
+      arith,
+      so_far.2,
+      ap length all,
+      length-append so_far.0 (c.in-Some.line ∷ c.next.new.self),
+      length-map (lines c.args.width (lined x)) (place_line x),
+      few-lines_of (lined x) c.args.width (lined-utf8 x utf8),
+      lined-length x utf8,
+      length-plain t,
+    )
 
 -- a line more is counted and written
 pub loop-line-preserved : goal.loop-line-preserved

@@ -2,7 +2,8 @@ use Rattle.std.proofs.Common.{◌≡◌, ℕ, List, None, refl, ◌∙◌, ap, r
 use Rattle.ansi_items.specs.declared.ansitok.Kind.TheVariants.{Other}
 use Rattle.ansi_items.proofs.StepLemmas.{gives_text, gives_mark, kind_is_text}
 use Rattle.ansi_search.proofs.OffsetLemmas.{item_range, kind_differs}
-use Rattle.ansi_columns.proofs.AddressLemmas.{address_walk-begin, address_walk-text, address_walk-other, address_walk-rest, address_walk-last, address_walk-end, none-exactly, other_is_sequence, GivesItem-no_link}
+use Rattle.ansi_columns.proofs.AddressLemmas.{address_walk-begin, address_walk-text, address_walk-other, address_walk-rest, address_walk-last, address_walk-end, none-exactly}
+use Rattle.ansi_safe.proofs.AddressLemmas.{other_is_sequence, GivesItem-no_link}
 use Rattle.ansi_safe.proofs.LinkLemmas.{is_kind}
 use Rattle.ansi_columns.proofs.addresses.link_at.Goals as goal
 

@@ -20,7 +20,7 @@ pub returns-clause-screen : goal.returns-clause-screen
 returns-clause-screen g c = edited-screen c.args.to.now.width c.args.to.now.first_indent.now c.args.to.now.indent.now c.in_ok-made.ensures.bytes _ c.wrap_edited.ensures.lines c.wrap_edited.ensures.utf8 c.wrap_edited.ensures.first c.wrap_edited.ensures.later
 
 pub returns-clause-lent : goal.returns-clause-lent
-returns-clause-lent g c = λ are. edited-lent c.args.to.now.width c.args.to.now.first_indent.now c.args.to.now.indent.now c.in_ok-made.ensures.bytes _ c.wrap_edited.ensures.lines (lends-borrowed c.in_ok-made.made (c.in_ok-made.ensures.borrowed.1 are))
+returns-clause-lent g c = λ are. edited-lent c.args.to.now.width c.args.to.now.first_indent.now c.args.to.now.indent.now c.in_ok-made.ensures.bytes _ c.wrap_edited.ensures.lines (lends-borrowed c.in_ok-made.made (c.in_ok-made.ensures.borrowed.1 (tt, are)))
 
 pub returns-clause-owned : goal.returns-clause-owned
-returns-clause-owned g c = λ none. edited-owned c.args.to.now.width c.args.to.now.first_indent.now c.args.to.now.indent.now c.in_ok-made.ensures.bytes _ c.wrap_edited.ensures.lines (lends-owned c.in_ok-made.made (λ is. none (c.in_ok-made.ensures.borrowed.0 is)))
+returns-clause-owned g c = λ none. edited-owned c.args.to.now.width c.args.to.now.first_indent.now c.args.to.now.indent.now c.in_ok-made.ensures.bytes _ c.wrap_edited.ensures.lines (lends-owned c.in_ok-made.made (λ is. none (c.in_ok-made.ensures.borrowed.0 is).1))

@@ -1,3 +1,4 @@
+use Rattle.std.specs.Cow.{cow_str_bytes}
 use Rattle.ansi_columns.specs.Edits.{changes_of}
 use Rattle.ansi_columns.proofs.EditLemmas.{editing-begun, editing-next, editing-ended, first_left, lent-next, ended-shown, ended-screen}
 use Rattle.ansi_columns.proofs.EditWrapLemmas.{lent-ended}
@@ -8,7 +9,7 @@ use Rattle.ansi_columns.proofs.edits.edit_in_turn.Goals as goal
 -- before the first edit, and after each
 
 pub edits-init : goal.edits-init
-edits-init g c = record { editing = editing-begun (changes_of c.args.edits.now) c.args.text.now; lent = (λ both. both.1, λ all. (tt, all)) }
+edits-init g c = record { editing = editing-begun (changes_of c.args.edits.now) (cow_str_bytes c.args.text); lent = (λ is. is, λ is. is) }
 
 pub edits-preserved : goal.edits-preserved
 edits-preserved g c = record {
@@ -28,13 +29,13 @@ pub returns-clause-borrowed : goal.returns-clause-borrowed
 returns-clause-borrowed g c = lent-ended _ c.edits.left.now c.in_default.len_below c.edits.invariant.lent
 
 pub returns-clause-safe : goal.returns-clause-safe
-returns-clause-safe g c = λ other. shown-safe (ended-shown (changes_of c.args.edits.now) c.args.text.now _ (editing-ended c.edits.left.now c.in_default.len_below c.edits.invariant.editing) other) refl
+returns-clause-safe g c = λ other. shown-safe (ended-shown (changes_of c.args.edits.now) (cow_str_bytes c.args.text) _ (editing-ended c.edits.left.now c.in_default.len_below c.edits.invariant.editing) other) refl
 
 pub returns-clause-one_line : goal.returns-clause-one_line
-returns-clause-one_line g c = λ other. shown-one_line (ended-shown (changes_of c.args.edits.now) c.args.text.now _ (editing-ended c.edits.left.now c.in_default.len_below c.edits.invariant.editing) other) refl
+returns-clause-one_line g c = λ other. shown-one_line (ended-shown (changes_of c.args.edits.now) (cow_str_bytes c.args.text) _ (editing-ended c.edits.left.now c.in_default.len_below c.edits.invariant.editing) other) refl
 
 pub returns-clause-closed : goal.returns-clause-closed
-returns-clause-closed g c = λ other. shown-closed (ended-shown (changes_of c.args.edits.now) c.args.text.now _ (editing-ended c.edits.left.now c.in_default.len_below c.edits.invariant.editing) other) refl
+returns-clause-closed g c = λ other. shown-closed (ended-shown (changes_of c.args.edits.now) (cow_str_bytes c.args.text) _ (editing-ended c.edits.left.now c.in_default.len_below c.edits.invariant.editing) other) refl
 
 pub returns-clause-screen : goal.returns-clause-screen
-returns-clause-screen g c = λ other. ended-screen (changes_of c.args.edits.now) c.args.text.now _ (editing-ended c.edits.left.now c.in_default.len_below c.edits.invariant.editing) other
+returns-clause-screen g c = λ other. ended-screen (changes_of c.args.edits.now) (cow_str_bytes c.args.text) _ (editing-ended c.edits.left.now c.in_default.len_below c.edits.invariant.editing) other

@@ -7,8 +7,8 @@ use Rattle.ansi_columns.proofs.edits.edit_in_turn.Given as goal
 -- the edits that are left make of the text so far what all make of the text, and lend what all lend
 abbrev pub invariant-edits : goal.invariant-edits
 invariant-edits g l = record {
-  editing : IsEditing (changes_of l.edits) l.text (changes_of l.left) (cow_str_bytes l.edited);
-  lent : (IsBorrowedStr l.edited × AreLent (changes_of l.left) (cow_str_bytes l.edited)) ↔ AreLent (changes_of l.edits) l.text;
+  editing : IsEditing (changes_of l.edits) (cow_str_bytes l.fn.text) (changes_of l.left) (cow_str_bytes l.edited);
+  lent : (IsBorrowedStr l.edited × AreLent (changes_of l.left) (cow_str_bytes l.edited)) ↔ (IsBorrowedStr l.fn.text × AreLent (changes_of l.edits) (cow_str_bytes l.fn.text));
 }
 
 abbrev pub decreases-edits : goal.decreases-edits

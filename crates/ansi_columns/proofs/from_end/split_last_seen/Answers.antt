@@ -1,4 +1,4 @@
-use Rattle.std.proofs.Common.{◌≡◌, ◌∷◌, [], ◌++◌, sym, ◌∙◌, ap, arith, append-nil, rules}
+use Rattle.std.proofs.Common.{◌∷◌, [], ◌++◌, sym, ◌∙◌, ap, arith, append-nil, rules}
 use Rattle.std.specs.Str.{chars}
 use Rattle.ansi_items.specs.Plain.{plain}
 use Rattle.ansi_columns.specs.Views.{seen}

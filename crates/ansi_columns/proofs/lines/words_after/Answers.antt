@@ -1,9 +1,9 @@
 use Rattle.std.proofs.Common.{◌≡◌, ◌+◌, Some, None, length, take, drop, slice_range, sym, ◌∙◌, ap, arith}
 use Rattle.std.proofs.lemmas.List.{take-take}
 use Rattle.memchr.specs.Find.{IsLastByte, is_byte}
-use Rattle.ansi_columns.specs.declared.views.View.TheVariants.{Given}
 use Rattle.ansi_columns.specs.Words.{end_after}
 use Rattle.ansi_columns.proofs.PrintableLemmas.{front-size, front-fewer, slice_range-take}
+use Rattle.ansi_columns.proofs.LineReadLemmas.{tight-past, tight-after}
 use Rattle.ansi_columns.proofs.WordLemmas.{words-none, words-last_byte, words-last_word}
 use Rattle.ansi_columns.proofs.lines.words_after.Goals as goal
 
@@ -12,7 +12,7 @@ returns-in_default-clause-positions c =
     let t = c.args.text.now in
     let a = c.args.here.offset in
     let bytes = slice_range t a (a + c.args.len) in
-    let size : length bytes ≡ c.args.len = front-size c.requires.here c.requires.after.front in
+    let size : length bytes ≡ c.args.len = front-size c.requires.here.1 c.requires.after.front in
     let none : IsLastByte (is_byte 0x20) bytes None = rw (c.in_default.is, c.as_bytes.ensures.value) at c.memrchr.ensures in
     let place : c.args.here.position + length bytes ≡ c.args.after.position = omega (arith, size, c.requires.after.position) in
     sym (words-none bytes c.args.here.position c.args.end_before.position c.args.word.position c.args.end.position (omega (arith, size, c.if-len-eq0.false)) none ∙ ap (λ n. (c.args.end_before.position, c.args.word.position, n)) place)
@@ -22,18 +22,18 @@ end_after-before-requires-clause-ahead c =
     let t = c.args.text.now in
     let a = c.args.here.offset in
     let bytes = slice_range t a (a + c.args.len) in
-    let size : length bytes ≡ c.args.len = front-size c.requires.here c.requires.after.front in
+    let size : length bytes ≡ c.args.len = front-size c.requires.here.1 c.requires.after.front in
     let last : IsLastByte (is_byte 0x20) bytes (Some c.in-Some.blank) = rw (c.in-Some.is, c.as_bytes.ensures.value) at c.memrchr.ensures in
-    λ some. front-fewer c.args.len c.in-Some.blank c.requires.here c.requires.after.front (omega (arith, size, last.0.high))
+    λ some. front-fewer c.args.len c.in-Some.blank c.requires.here.1 c.requires.after.front (omega (arith, size, last.0.high))
 
 pub past_printable-requires-clause-ahead : goal.past_printable-requires-clause-ahead
 past_printable-requires-clause-ahead c =
     let t = c.args.text.now in
     let a = c.args.here.offset in
     let bytes = slice_range t a (a + c.args.len) in
-    let size : length bytes ≡ c.args.len = front-size c.requires.here c.requires.after.front in
+    let size : length bytes ≡ c.args.len = front-size c.requires.here.1 c.requires.after.front in
     let last : IsLastByte (is_byte 0x20) bytes (Some c.in-Some.blank) = rw (c.in-Some.is, c.as_bytes.ensures.value) at c.memrchr.ensures in
-    λ some. front-fewer c.args.len (c.in-Some.blank + 1) c.requires.here c.requires.after.front (omega (arith, size, last.0.high, c.if-blank-len.false))
+    λ some. front-fewer c.args.len (c.in-Some.blank + 1) c.requires.here.1 c.requires.after.front (omega (arith, size, last.0.high, c.if-blank-len.false))
 
 pub returns-then-blank-len-clause-positions : goal.returns-then-blank-len-clause-positions
 returns-then-blank-len-clause-positions c =
@@ -41,7 +41,7 @@ returns-then-blank-len-clause-positions c =
     let a = c.args.here.offset in
     let k = c.in-Some.blank in
     let bytes = slice_range t a (a + c.args.len) in
-    let size : length bytes ≡ c.args.len = front-size c.requires.here c.requires.after.front in
+    let size : length bytes ≡ c.args.len = front-size c.requires.here.1 c.requires.after.front in
     let last : IsLastByte (is_byte 0x20) bytes (Some k) = rw (c.in-Some.is, c.as_bytes.ensures.value) at c.memrchr.ensures in
     let front : slice_range t a (a + k) ≡ take k bytes
     = slice_range-take t a k ∙ sym (take-take k c.args.len (drop a t) (omega (arith, size, last.0.high))) ∙ ap (take k) (sym (slice_range-take t a c.args.len)) in
@@ -56,7 +56,7 @@ returns-clause-positions c =
     let a = c.args.here.offset in
     let k = c.in-Some.blank in
     let bytes = slice_range t a (a + c.args.len) in
-    let size : length bytes ≡ c.args.len = front-size c.requires.here c.requires.after.front in
+    let size : length bytes ≡ c.args.len = front-size c.requires.here.1 c.requires.after.front in
     let last : IsLastByte (is_byte 0x20) bytes (Some k) = rw (c.in-Some.is, c.as_bytes.ensures.value) at c.memrchr.ensures in
     let front : slice_range t a (a + k) ≡ take k bytes
     = slice_range-take t a k ∙ sym (take-take k c.args.len (drop a t) (omega (arith, size, last.0.high))) ∙ ap (take k) (sym (slice_range-take t a c.args.len)) in
@@ -68,19 +68,25 @@ returns-clause-positions c =
     ∙ ap (λ n. (c.end_after-before.result.position, c.past_printable.result.position, n)) all)
 
 pub past_printable-requires-clause-walk : goal.past_printable-requires-clause-walk
-past_printable-requires-clause-walk c = (Given, c.requires.here)
+past_printable-requires-clause-walk c = c.requires.here
 
-pub returns-in_default-clause-end : goal.returns-in_default-clause-end
-returns-in_default-clause-end c = c.requires.after.walk Given c.requires.here
+-- the walks are tight
 
-pub returns-then-blank-len-clause-word : goal.returns-then-blank-len-clause-word
-returns-then-blank-len-clause-word c = c.requires.after.walk Given c.requires.here
+pub returns-then-len-eq0-clause-walks : goal.returns-then-len-eq0-clause-walks
+returns-then-len-eq0-clause-walks c view here words = words
 
-pub returns-clause-word : goal.returns-clause-word
-returns-clause-word c = c.past_printable.ensures.walk Given c.requires.here
+pub returns-then-bytes-eq32-clause-walks : goal.returns-then-bytes-eq32-clause-walks
+returns-then-bytes-eq32-clause-walks c view here words = (words.2, tight-after c.utf8.text here c.requires.after, words.2)
 
-pub returns-clause-end : goal.returns-clause-end
-returns-clause-end c = c.requires.after.walk Given c.requires.here
+pub returns-in_default-clause-walks : goal.returns-in_default-clause-walks
+returns-in_default-clause-walks c view here words = (words.0, words.1, tight-after c.utf8.text here c.requires.after)
 
-pub returns-then-bytes-eq32-clause-word : goal.returns-then-bytes-eq32-clause-word
-returns-then-bytes-eq32-clause-word c = c.requires.after.walk Given c.requires.here
+pub returns-then-blank-len-clause-walks : goal.returns-then-blank-len-clause-walks
+returns-then-blank-len-clause-walks c view here words =
+    let before = c.end_after-before.ensures.walk view here words.2 in
+    (before, tight-after c.utf8.text here c.requires.after, before)
+
+pub returns-clause-walks : goal.returns-clause-walks
+returns-clause-walks c view here words =
+    let past = c.past_printable.ensures in
+    (c.end_after-before.ensures.walk view here words.2, tight-past (c.in-Some.blank + 1) c.utf8.text here (past.walk view here.walk) past.position (past.seen view), tight-after c.utf8.text here c.requires.after)

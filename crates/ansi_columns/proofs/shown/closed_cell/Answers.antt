@@ -1,8 +1,6 @@
-use Rattle.std.proofs.Common.{◌≡◌, IfOk, ◌∙◌, ap, arith}
-use Rattle.std.specs.Cow.{cow_str_bytes}
+use Rattle.std.proofs.Common.{◌∙◌, arith}
 use Rattle.std.proofs.lemmas.Result.{IfOk-weaker}
 use Rattle.ansi_safe.specs.Cells.{cell}
-use Rattle.ansi_columns.specs.Shown.{missing}
 use Rattle.ansi_columns.proofs.IndentLemmas.{padded-closed_alone}
 use Rattle.ansi_columns.proofs.shown.closed_cell.Goals as goal
 

@@ -1,5 +1,4 @@
 use Rattle.std.proofs.Common.{arith}
-use Rattle.ansi_columns.specs.declared.views.View.TheVariants.{Given}
 use Rattle.ansi_columns.proofs.WalkLemmas.{walk_boundary}
 use Rattle.ansi_columns.proofs.EdgeLemmas.{edge-begin, edge-clusters, edge-more, edge-divided, edge-no_column, edge-no_cluster}
 use Rattle.ansi_columns.proofs.slices.edge_after.Goals as goal

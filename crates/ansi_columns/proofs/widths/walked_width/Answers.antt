@@ -1,4 +1,4 @@
-use Rattle.std.proofs.Common.{◌^◌, ◌<◌, length, refl, sym, subst, arith, rules}
+use Rattle.std.proofs.Common.{◌^◌, ◌<◌, length, refl, arith, rules}
 use Rattle.ansi_items.proofs.PlainLemmas.{length-plain}
 use Rattle.ansi_columns.proofs.ColumnLemmas.{counted-next, counted-end}
 use Rattle.ansi_columns.proofs.PrintableLemmas.{counted-clusters}

@@ -1,7 +1,7 @@
 use Rattle.std.proofs.Common.{◌≡◌, ◌-◌, Some, length, slice_range, sym, ◌∙◌, ap, subst}
 use Rattle.std.specs.Str.{IsCharBoundary}
 use Rattle.ansi_safe.specs.Links.{terminator_len, address_of}
-use Rattle.ansi_restyle.proofs.AddressLemmas.{address-stands}
+use Rattle.ansi_safe.proofs.AddressLemmas.{address-stands}
 use Rattle.ansi_restyle.proofs.links.address_in.Goals as goal
 
 pub range-requires-clause-start_boundary : goal.range-requires-clause-start_boundary

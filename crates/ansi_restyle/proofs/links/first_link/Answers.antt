@@ -3,7 +3,7 @@ use Rattle.ansi_items.specs.declared.ansitok.Kind.TheVariants.{Other}
 use Rattle.ansi_items.proofs.StepLemmas.{gives_mark, gives_rest}
 use Rattle.ansi_search.proofs.OffsetLemmas.{kind_differs}
 use Rattle.ansi_safe.proofs.LinkLemmas.{is_kind}
-use Rattle.ansi_restyle.proofs.AddressLemmas.{other_is_sequence}
+use Rattle.ansi_safe.proofs.AddressLemmas.{other_is_sequence}
 use Rattle.ansi_restyle.proofs.LinkWalkLemmas.{link_walk-begin, link_walk-first}
 use Rattle.ansi_restyle.proofs.links.first_link.Goals as goal
 

@@ -1,4 +1,5 @@
-use Rattle.std.proofs.Common.{Result, Ok, Err, OnOk, ◌∙◌, sym, ap, string_bytes}
+use Rattle.std.proofs.Common.{◌∙◌, sym, ap, string_bytes}
+use Rattle.std.proofs.lemmas.Result.{on_ok_weaker}
 use Rattle.ansi_items.specs.Plain.{plain}
 use Rattle.ansi_items.proofs.Utf8Lemmas.{IsUtf8-plain}
 use Rattle.ansi_restyle.specs.Matches.{matches}
@@ -44,9 +45,5 @@ loop-range-preserved g c =
 pub push_without_front-requires : goal.push_without_front-requires
 push_without_front-requires g c = good_last c.loop-range.invariant
 
-on_ok : {A E : Type 0} (P Q : Type 0) (r : Result A E) → (P → Q) → OnOk r P → OnOk r Q
-on_ok P Q (Ok a) so is = so is
-on_ok P Q (Err e) so is = is
-
 pub returns : goal.returns
-returns g c = on_ok _ _ c.push_without_front.result (replaced-end c.loop-range.invariant (ap (swaps_with c.args.with.now) c.in-None.ensures.steps.0)) c.push_without_front.ensures
+returns g c = on_ok_weaker c.push_without_front.result (replaced-end c.loop-range.invariant (ap (swaps_with c.args.with.now) c.in-None.ensures.steps.0)) c.push_without_front.ensures

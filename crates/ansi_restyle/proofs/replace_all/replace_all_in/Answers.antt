@@ -5,6 +5,7 @@ use Rattle.ansi_search.specs.Matches.{first_match_from}
 use Rattle.ansi_safe.specs.Safe.{is_safe}
 use Rattle.ansi_restyle.specs.Matches.{matches}
 use Rattle.ansi_restyle.specs.ReplacedAll.{replaced_all, IsReplacedAll}
+use Rattle.ansi_restyle.proofs.LengthEachLemmas.{length-replaced_all}
 use Rattle.ansi_restyle.proofs.ReplacedAllLemmas.{no_matches, some_matches, replaced_all-nothing, is_replaced_all}
 use Rattle.ansi_restyle.proofs.SafeEachLemmas.{safe-replaced_all}
 use Rattle.ansi_restyle.proofs.replace_all.replace_all_in.Goals as goal
@@ -61,6 +62,12 @@ pub returns-clause-borrowed : goal.returns-clause-borrowed
 returns-clause-borrowed g c =
     let some = some_found (plain c.args.text.now) c.args.pat.now c.find_from.result c.find_from.ensures.first c.if-is_none.ensures in
     (λ is. absurd is, λ none. absurd (some none))
+
+pub returns-clause-len : goal.returns-clause-len
+returns-clause-len g c =
+    let t = c.args.text.now in
+    let w = c.args.with.now in
+    length-replaced_all t c.args.pat.now w _ c.utf8.text c.utf8.pat (c.in_ok-push_replaced_all.ensures ∙ ap (λ (u : List ℕ). u ++ replaced_all t c.args.pat.now w) c.in_ok-replaced.ensures.bytes)
 
 -- and safe, if no match begins between a carriage return and a line feed
 pub returns-clause-safe : goal.returns-clause-safe

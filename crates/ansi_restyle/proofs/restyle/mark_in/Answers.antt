@@ -1,5 +1,4 @@
-use Rattle.std.proofs.Common.{◌≡◌, ℕ, ◌==◌, ◌⊎◌, true, false, List, ◌++◌, length, inl, inr, None, Some, sym, ◌∙◌, ap, ap₂, subst, IsTrue, IsFalse, string_bytes}
-use Rattle.std.specs.Str.{IsUtf8}
+use Rattle.std.proofs.Common.{◌≡◌, ℕ, ◌==◌, ◌⊎◌, true, false, List, length, inl, inr, Some, sym, ◌∙◌, ap, ap₂, subst, IsTrue, IsFalse, string_bytes}
 use Rattle.ansi_items.specs.Plain.{plain}
 use Rattle.ansi_items.specs.Sequences.{is_sgr}
 use Rattle.ansi_items.proofs.Utf8Lemmas.{IsUtf8-plain}
@@ -45,8 +44,7 @@ pub returns-in_default-clause-bytes : goal.returns-in_default-clause-bytes
 returns-in_default-clause-bytes g c =
     let t = c.args.text.now in
     let p = c.args.pat.now in
-    let none : None ≡ first_match_from (plain t) p 0 = subst (λ u. None ≡ first_match_from (plain u) p 0) c.new-left.ensures c.in_default.ensures in
-    ap (restyled t (written c.args.codes.now)) (sym (matches-none (plain t) p (sym none)))
+    ap (restyled t (written c.args.codes.now)) (sym (matches-none (plain t) p c.in_default.ensures))
 
 pub returns-in_default-clause-headline : goal.returns-in_default-clause-headline
 returns-in_default-clause-headline g c =
@@ -60,49 +58,37 @@ pub returns-in_default-clause-borrowed : goal.returns-in_default-clause-borrowed
 returns-in_default-clause-borrowed g c =
     let t = c.args.text.now in
     let p = c.args.pat.now in
-    let none : None ≡ first_match_from (plain t) p 0 = subst (λ u. None ≡ first_match_from (plain u) p 0) c.new-left.ensures c.in_default.ensures in
-    ((λ borrow. ap are_empty (matches-none (plain t) p (sym none))), (λ empty. tt))
+    ((λ borrow. ap are_empty (matches-none (plain t) p c.in_default.ensures)), (λ empty. tt))
 
 -- memory is taken only if a match isn't empty
 
-none_taken : (G : Type 0) (t p codes left : List ℕ) (m : ℕ) → left ≡ t → Some m ≡ first_match_from (plain left) p 0 → (length p == 0) ≡ false → is_change codes ≡ true → IsTrue (are_empty (matches (plain t) p)) ⊎ IsFalse (is_change codes) → G
-none_taken G t p codes left m is_left found filled is either =
-    let there : Some m ≡ first_match_from (plain t) p 0 = subst (λ u. Some m ≡ first_match_from (plain u) p 0) is_left found in
-    elim either [
-      | inl empty ↦ absurd (matches-some (plain t) p m filled (sym there) empty)
-      | inr refused ↦ absurd (cc (refused, is))
-    ]
+none_taken : (G : Type 0) (t p codes : List ℕ) (m : ℕ) → first_match_from (plain t) p 0 ≡ Some m → (length p == 0) ≡ false → is_change codes ≡ true → IsTrue (are_empty (matches (plain t) p)) ⊎ IsFalse (is_change codes) → G
+none_taken G t p codes m found filled is either = elim either [
+  | inl empty ↦ absurd (matches-some (plain t) p m filled found empty)
+  | inr refused ↦ absurd (cc (refused, is))
+]
 
 pub returns-in_err-change-clause-takes_no_memory : goal.returns-in_err-change-clause-takes_no_memory
 returns-in_err-change-clause-takes_no_memory g c =
-    none_taken _ c.args.text.now c.args.pat.now c.args.codes.now c.new-left.result.text.now c.in-Some.first c.new-left.ensures c.in-Some.ensures
+    none_taken _ c.args.text.now c.args.pat.now c.args.codes.now c.in-Some.ensures.1.place c.in-Some.ensures.1.first
     (sym c.is_empty.ensures ∙ c.if-is_empty.false) (sym c.is_change.ensures ∙ c.if-not-is_change.false)
 
 pub returns-in_err-marked-clause-takes_no_memory : goal.returns-in_err-marked-clause-takes_no_memory
 returns-in_err-marked-clause-takes_no_memory g c =
-    none_taken _ c.args.text.now c.args.pat.now c.args.codes.now c.new-left.result.text.now c.in-Some.first c.new-left.ensures c.in-Some.ensures
-    (sym c.is_empty.ensures ∙ c.if-is_empty.false) (sym c.is_change.ensures ∙ c.if-not-is_change.false)
-
-pub returns-in_err-push_marked-clause-takes_no_memory : goal.returns-in_err-push_marked-clause-takes_no_memory
-returns-in_err-push_marked-clause-takes_no_memory g c =
-    none_taken _ c.args.text.now c.args.pat.now c.args.codes.now c.new-left.result.text.now c.in-Some.first c.new-left.ensures c.in-Some.ensures
+    none_taken _ c.args.text.now c.args.pat.now c.args.codes.now c.in-Some.ensures.1.place c.in-Some.ensures.1.first
     (sym c.is_empty.ensures ∙ c.if-is_empty.false) (sym c.is_change.ensures ∙ c.if-not-is_change.false)
 
 -- each match is written
 
-pub push_marked-requires-clause-change : goal.push_marked-requires-clause-change
-push_marked-requires-clause-change g c =
+pub marked_text-requires-clause-change : goal.marked_text-requires-clause-change
+marked_text-requires-clause-change g c =
     subst (λ u. IsTrue (is_sgr u)) (sym (c.as_str.ensures.value ∙ c.in_ok-change.ensures)) (change_is_sgr c.args.codes.now (sym c.is_change.ensures ∙ c.if-not-is_change.false))
-
-pub push_marked-requires-clause-utf8 : goal.push_marked-requires-clause-utf8
-push_marked-requires-clause-utf8 g c = subst (λ t. IsUtf8 (plain t)) (sym c.new-left.ensures) (IsUtf8-plain c.args.text.now c.utf8.text)
 
 pub returns-clause-bytes : goal.returns-clause-bytes
 returns-clause-bytes g c =
-    let p = c.args.pat.now in
-    c.in_ok-push_marked.ensures
-    ∙ ap₂ (λ o t. o ++ restyled t c.as_str.result.now (matches (plain t) p)) c.in_ok-marked.ensures.bytes c.new-left.ensures
-    ∙ ap (λ v. restyled c.args.text.now v (matches (plain c.args.text.now) p)) (c.as_str.ensures.value ∙ c.in_ok-change.ensures)
+    let x = plain c.args.text.now in
+    c.in_ok-marked.ensures
+    ∙ ap₂ (λ v p. restyled c.args.text.now v (matches x p)) (c.as_str.ensures.value ∙ c.in_ok-change.ensures) c.in-Some.ensures.0
 
 pub returns-clause-headline : goal.returns-clause-headline
 returns-clause-headline g c =
@@ -116,12 +102,11 @@ pub returns-clause-borrowed : goal.returns-clause-borrowed
 returns-clause-borrowed g c =
     let t = c.args.text.now in
     let p = c.args.pat.now in
-    let found : Some c.in-Some.first ≡ first_match_from (plain t) p 0 = subst (λ u. Some c.in-Some.first ≡ first_match_from (plain u) p 0) c.new-left.ensures c.in-Some.ensures in
-    ((λ never. absurd never), matches-some (plain t) p c.in-Some.first (sym c.is_empty.ensures ∙ c.if-is_empty.false) (sym found))
+    ((λ never. absurd never), matches-some (plain t) p c.in-Some.ensures.1.place (sym c.is_empty.ensures ∙ c.if-is_empty.false) c.in-Some.ensures.1.first)
 
 pub returns-clause-len : goal.returns-clause-len
 returns-clause-len g c =
-    length-restyled c.args.text.now c.args.codes.now (matches (plain c.args.text.now) c.args.pat.now) (string_bytes c.push_marked.new.out) (returns-clause-bytes g c)
+    length-restyled c.args.text.now c.args.codes.now (matches (plain c.args.text.now) c.args.pat.now) (string_bytes c.in_ok-marked.marked) (returns-clause-bytes g c)
 
 -- and safe, if no match parts a line end
 pub returns-clause-safe : goal.returns-clause-safe

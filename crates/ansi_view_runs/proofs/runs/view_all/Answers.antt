@@ -1,7 +1,7 @@
 use Rattle.std.proofs.Common.{◌≡◌, ◌+◌, ◌∙◌, arith, refl, rules, inl, inr, take, string_bytes}
 use Rattle.std.specs.Io.KnownBytes.{IsAtEnd}
 use Rattle.ansi_lines_runs.proofs.Written.{flag_unchanged}
-use Rattle.ansi_view_runs.specs.Jobs.{work_of}
+use Rattle.ansi_view_runs.specs.SafeJobs.{work_of}
 use Rattle.ansi_view_runs.specs.Runs.{HasViewed}
 use Rattle.ansi_view_runs.proofs.Viewed.{HasViewed-start, HasViewed-read, HasViewed-then, views_front, views_all, views_beginning, views_same, flags_then, failed_now, interrupted_now, nothing_taken, nothing_given}
 use Rattle.ansi_view_runs.proofs.runs.view_all.Goals.{in-Ok+in_ok-take_bytes-in-Ok, in-Err-Interrupted}

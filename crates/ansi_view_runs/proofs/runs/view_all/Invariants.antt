@@ -1,6 +1,6 @@
 use Rattle.std.proofs.Common.{◌≡◌, ◌≤◌, ◌+◌, length, string_bytes}
 use Rattle.ansi_io.specs.Devices.{count_after}
-use Rattle.ansi_view_runs.specs.Jobs.{work_of}
+use Rattle.ansi_view_runs.specs.SafeJobs.{work_of}
 use Rattle.ansi_view_runs.specs.Lines.{max_piece, HasNoLineFeed}
 use Rattle.ansi_view_runs.specs.Runs.{HasViewed, KeepsFlags}
 use Rattle.ansi_view_runs.specs.declared.runs.TheConstants.{ROOM}

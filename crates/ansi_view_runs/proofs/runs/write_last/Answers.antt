@@ -4,7 +4,7 @@ use Rattle.std.proofs.lemmas.Bool.{eqb-true}
 use Rattle.std.proofs.lemmas.Bool.Decides.{nat_tests}
 use Rattle.std.proofs.lemmas.List.{nil_from_length}
 use Rattle.ansi_io.proofs.Known.{append_known-nil}
-use Rattle.ansi_view_runs.specs.Jobs.{work_of}
+use Rattle.ansi_view_runs.specs.SafeJobs.{work_of}
 use Rattle.ansi_view_runs.specs.Lines.{HasNoLineFeed}
 use Rattle.ansi_view_runs.specs.Runs.{to_come}
 use Rattle.ansi_view_runs.proofs.Shown.{to_come-nothing, to_come-last}

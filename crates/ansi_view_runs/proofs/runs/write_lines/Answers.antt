@@ -1,5 +1,5 @@
 use Rattle.std.proofs.Common.{◌∙◌, string_bytes}
-use Rattle.ansi_view_runs.specs.Jobs.{work_of}
+use Rattle.ansi_view_runs.specs.SafeJobs.{work_of}
 use Rattle.ansi_view_runs.specs.LineViews.{line_of}
 use Rattle.ansi_view_runs.specs.Runs.{to_come}
 use Rattle.ansi_view_runs.specs.Views.{viewed}

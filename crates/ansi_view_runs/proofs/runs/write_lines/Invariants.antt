@@ -1,5 +1,5 @@
 use Rattle.std.proofs.Common.{◌≡◌, length, string_bytes}
-use Rattle.ansi_view_runs.specs.Jobs.{work_of}
+use Rattle.ansi_view_runs.specs.SafeJobs.{work_of}
 use Rattle.ansi_view_runs.specs.Runs.{to_come, Shows, KeepsFlags}
 use Rattle.ansi_view_runs.proofs.runs.write_lines.Given as goal
 

@@ -1,5 +1,5 @@
 use Rattle.std.proofs.Common.{◌∙◌, ◌++◌, ap, sym, string_bytes}
-use Rattle.ansi_view_runs.specs.Jobs.{work_of}
+use Rattle.ansi_view_runs.specs.SafeJobs.{work_of}
 use Rattle.ansi_view_runs.specs.LineViews.{line_of}
 use Rattle.ansi_view_runs.proofs.StayLemmas.{viewed-unchanged}
 use Rattle.ansi_view_runs.proofs.view.view_decoded.Goals as goal

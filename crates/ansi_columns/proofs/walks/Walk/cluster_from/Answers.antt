@@ -7,6 +7,7 @@ use Rattle.ansi_columns.specs.Views.{seen}
 use Rattle.ansi_columns.specs.Walks.{after, seen_before, seen_after, seen_cluster, seen_clusters, IsSeenNext}
 use Rattle.ansi_columns.proofs.ClusterWalkLemmas.{seen_cluster-past, cluster-first, cluster-more, cluster-stops, cluster-is_last}
 use Rattle.ansi_columns.proofs.ViewLemmas.{seen-nil, before-none, after-none, after-one}
+use Rattle.ansi_columns.proofs.TightLemmas.{tight-one}
 use Rattle.ansi_columns.proofs.WalkLemmas.{walk_boundary}
 use Rattle.ansi_columns.proofs.walks.Walk.cluster_from.Goals.{in_default-Some+then-ends_before, in_default}
 use Rattle.ansi_columns.proofs.walks.Walk.cluster_from.Goals as goal
@@ -22,6 +23,7 @@ cluster-init c =
     record {
       walk = first.walk;
       so_far = cluster-first view t c.utf8.text n m c.args.first less (walk_boundary t c.utf8.text c.args.self c.requires.walk) (walk_boundary t c.utf8.text c.args.after_first first.walk) first.one;
+      tight = c.requires.tight;
     }
 
 pub cluster-preserved : goal.cluster-preserved
@@ -42,6 +44,7 @@ cluster-preserved c =
     record {
       walk = c.past-walk.ensures.walk view found.walk next;
       so_far = cluster-more view t c.utf8.text c.args.self.position p m c.in_default-Some.next (walk_boundary t c.utf8.text c.args.self c.requires.walk) inv.so_far past.3 begin past.0 past.2 joins;
+      tight = tight-one view t c.utf8.text here.position m (omega (arith, c.past-walk.ensures.position)) (walk_boundary t c.utf8.text here found.walk) past.0 c.in_default-Some.next past.1 c.past-walk.ensures.position;
     }
 
 pub cluster-smaller : goal.cluster-smaller
@@ -82,7 +85,7 @@ returns-then-walk-after_first c =
           cluster-is_last inv.so_far (after-none view t c.utf8.text p here.position more.ordered here_begin (walk_boundary t c.utf8.text here more.walk) more.left_out ∙ ap (seen view) none ∙ seen-nil view))
     ] in
     let one = ap (seen_cluster view t n) c.if-walk-after_first.true ∙ c.requires.first.one in
-    (inv.walk, inv.so_far.ahead, first, c.char_width-width.ensures.value ∙ ap cluster_width (sym one), omega (arith, c.char_width-width.ensures.bound, c.if-walk-after_first.true, c.requires.first.size))
+    (inv.walk, inv.so_far.ahead, first, c.char_width-width.ensures.value ∙ ap cluster_width (sym one), omega (arith, c.char_width-width.ensures.bound, c.if-walk-after_first.true, c.requires.first.size), inv.tight)
 
 pub returns-else-walk-after_first : goal.returns-else-walk-after_first
 returns-else-walk-after_first c =
@@ -108,4 +111,4 @@ returns-else-walk-after_first c =
           let none : after t here.position ≡ [] = rw is at more.next in
           cluster-is_last inv.so_far (after-none view t c.utf8.text p here.position more.ordered here_begin (walk_boundary t c.utf8.text here more.walk) more.left_out ∙ ap (seen view) none ∙ seen-nil view))
     ] in
-    (inv.walk, inv.so_far.ahead, first, c.width_up_to-width.ensures.value, c.width_up_to-width.ensures.bound)
+    (inv.walk, inv.so_far.ahead, first, c.width_up_to-width.ensures.value, c.width_up_to-width.ensures.bound, inv.tight)

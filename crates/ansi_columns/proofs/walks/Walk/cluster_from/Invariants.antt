@@ -1,5 +1,6 @@
 use Rattle.std.proofs.Common.{◌-◌, length}
 use Rattle.ansi_items.specs.Plain.{plain}
+use Rattle.ansi_columns.specs.Views.{IsTight}
 use Rattle.ansi_columns.specs.Walks.{IsWalkIn}
 use Rattle.ansi_columns.proofs.ClusterWalkLemmas.{IsClusterTo}
 use Rattle.ansi_columns.proofs.walks.Walk.cluster_from.Given as goal
@@ -9,6 +10,7 @@ abbrev pub invariant-cluster : goal.invariant-cluster
 invariant-cluster l = record {
   walk : IsWalkIn l.view l.text l.walk;
   so_far : IsClusterTo l.view l.text l.self.position l.walk.position;
+  tight : IsTight l.view l.text l.walk.position;
 }
 
 abbrev pub decreases-cluster : goal.decreases-cluster

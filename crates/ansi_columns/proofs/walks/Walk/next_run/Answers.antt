@@ -1,4 +1,4 @@
-use Rattle.std.proofs.Common.{◌≡◌, ◌+◌, ◌-◌, ◌^◌, ◌<◌, suc, length, take, drop, refl, ◌∙◌, ap, subst, arith, rules}
+use Rattle.std.proofs.Common.{◌≡◌, ◌-◌, ◌^◌, ◌<◌, suc, length, take, drop, refl, ◌∙◌, ap, subst, arith, rules}
 use Rattle.std.specs.List.{list_all}
 use Rattle.ansi_items.proofs.PlainLemmas.{length-plain}
 use Rattle.ansi_search.specs.Offsets.{offset_of}

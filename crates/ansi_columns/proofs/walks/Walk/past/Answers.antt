@@ -1,6 +1,4 @@
-use Rattle.std.proofs.Common.{◌≡◌, ◌+◌, ◌∷◌, length, encode_utf8, sym, ◌∙◌, ap, subst, arith}
-use Rattle.std.specs.Str.{IsCharBoundary}
-use Rattle.ansi_items.specs.Plain.{plain}
+use Rattle.std.proofs.Common.{◌≡◌, ◌+◌, ◌∷◌, length, encode_utf8, sym, ◌∙◌, ap, arith}
 use Rattle.ansi_columns.specs.BreakStates.{break_state_of}
 use Rattle.ansi_columns.specs.Walks.{seen_before}
 use Rattle.ansi_columns.proofs.ClusterWalkLemmas.{seen_cluster-past}

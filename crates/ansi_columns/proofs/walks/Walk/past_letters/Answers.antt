@@ -1,4 +1,4 @@
-use Rattle.std.proofs.Common.{◌+◌, ◌-◌, ◌++◌, ◌^◌, ◌<◌, ◌≤◌, length, encode_utf8, slice_range, refl, sym, ◌∙◌, ap, arith, rules}
+use Rattle.std.proofs.Common.{◌+◌, ◌++◌, ◌^◌, ◌<◌, length, encode_utf8, slice_range, sym, ◌∙◌, ap, arith, rules}
 use Rattle.ansi_items.proofs.PlainLemmas.{length-plain}
 use Rattle.ansi_columns.specs.Walks.{IsNext}
 use Rattle.ansi_columns.proofs.PrintableLemmas.{clusters-past}

@@ -1,6 +1,6 @@
-use Rattle.std.proofs.Common.{◌≡◌, ◌+◌, ◌-◌, ◌<◌, [], subst, arith}
+use Rattle.std.proofs.Common.{◌≡◌, ◌+◌, ◌-◌, [], subst, arith}
 use Rattle.ansi_columns.specs.BreakStates.{break_state_of}
-use Rattle.ansi_columns.specs.Walks.{IsPrintable, IsPastByte}
+use Rattle.ansi_columns.specs.Walks.{IsPastByte}
 use Rattle.ansi_columns.proofs.PrintableLemmas.{IsPrintable-front, printable-shorter}
 use Rattle.ansi_columns.proofs.walks.Walk.past_run.Goals as goal
 

@@ -1,11 +1,9 @@
-use Rattle.std.proofs.Common.{◌≡◌, ◌+◌, ◌∷◌, true, false, encode_utf8, [], None, refl, sym, ◌∙◌, ap, length, arith, rules}
-use Rattle.unicode_segmentation.specs.Grapheme.{is_grapheme_break}
-use Rattle.ansi_columns.specs.BreakStates.{break_state_of}
-use Rattle.ansi_columns.specs.Columns.{cluster_width}
+use Rattle.std.proofs.Common.{◌≡◌, [], ◌∙◌, ap, arith}
 use Rattle.ansi_columns.specs.Views.{seen}
-use Rattle.ansi_columns.specs.Walks.{after, seen_before, seen_after, seen_cluster, seen_clusters, IsSeenNext}
-use Rattle.ansi_columns.proofs.ClusterWalkLemmas.{seen_cluster-past, cluster-first, cluster-more, cluster-stops, cluster-is_last}
-use Rattle.ansi_columns.proofs.ViewLemmas.{seen-nil, before-none, after-none, after-one}
+use Rattle.ansi_columns.specs.Walks.{after, IsSeenNext}
+use Rattle.ansi_columns.proofs.ClusterWalkLemmas.{seen_cluster-past}
+use Rattle.ansi_columns.proofs.ViewLemmas.{seen-nil, after-none}
+use Rattle.ansi_columns.proofs.TightLemmas.{tight-one}
 use Rattle.ansi_columns.proofs.WalkLemmas.{walk_boundary}
 use Rattle.ansi_columns.proofs.walks.Walk.read_cluster.Goals as goal
 
@@ -30,3 +28,15 @@ cluster_from-requires-clause-first c =
     let begin = walk_boundary t c.utf8.text c.args.self c.requires in
     let past = seen_cluster-past n m c.utf8.text begin found.ordered found.walk found.left_out next c.past.ensures.position in
     record { walk = c.past.ensures.walk view found.walk next; one = past.2; size = omega (arith, found.ordered, c.past.ensures.position) }
+
+pub cluster_from-requires-clause-tight : goal.cluster_from-requires-clause-tight
+cluster_from-requires-clause-tight c =
+    let t = c.args.text.now in
+    let view = c.args.view in
+    let n = c.args.self.position in
+    let m = c.past.result.position in
+    let start = c.next_seen-first.result.0 in
+    let found = c.next_seen-first.ensures in
+    let next : IsSeenNext view t start c.in_ok-first.first = rw c.in_ok-first.was at found.next in
+    let past = seen_cluster-past n m c.utf8.text (walk_boundary t c.utf8.text c.args.self c.requires) found.ordered found.walk found.left_out next c.past.ensures.position in
+    tight-one view t c.utf8.text start.position m (omega (arith, c.past.ensures.position)) (walk_boundary t c.utf8.text start found.walk) past.0 c.in_ok-first.first past.1 c.past.ensures.position

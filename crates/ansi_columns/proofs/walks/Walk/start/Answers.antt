@@ -1,6 +1,7 @@
 use Rattle.std.proofs.Common.{sym, ◌∙◌, ap, arith}
 use Rattle.ansi_columns.specs.BreakStates.{break_state_of}
-use Rattle.ansi_columns.specs.declared.views.View.TheVariants.{Given}
+use Rattle.ansi_columns.specs.declared.views.View.TheVariants.{Given, Lined}
+use Rattle.ansi_columns.proofs.TightLemmas.{tight-start}
 use Rattle.ansi_columns.proofs.ViewLemmas.{seen_before-start}
 use Rattle.ansi_columns.proofs.walks.Walk.start.Goals as goal
 
@@ -24,4 +25,18 @@ returns-clause-walk c =
       end = first.none;
       break_state = c.start.ensures ∙ ap break_state_of (sym (seen_before-start Given c.args.text.now));
       within = omega arith;
+    }
+
+pub returns-clause-lined : goal.returns-clause-lined
+returns-clause-lined c =
+    let first = c.first_run-offset.ensures in
+    record {
+      walk = record {
+        offset = first.start;
+        run = first.run;
+        end = first.none;
+        break_state = c.start.ensures ∙ ap break_state_of (sym (seen_before-start Lined c.args.text.now));
+        within = omega arith;
+      };
+      tight = tight-start Lined c.args.text.now;
     }

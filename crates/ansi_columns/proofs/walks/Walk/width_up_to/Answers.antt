@@ -1,4 +1,4 @@
-use Rattle.std.proofs.Common.{◌≡◌, length, ◌∙◌, ap, arith}
+use Rattle.std.proofs.Common.{length, ◌∙◌, ap, arith}
 use Rattle.std.specs.Str.{chars}
 use Rattle.ansi_items.specs.Plain.{plain}
 use Rattle.ansi_search.proofs.SliceLemmas.{length-slice_range}

@@ -1,4 +1,4 @@
-use Rattle.std.proofs.Common.{ℕ, List, Some, rules, ◌≡◌, ◌≤◌, ◌-◌, ◌==◌, false, ◌∷◌, length, slice_range, IsTrue, sym, ◌∙◌, ap, ap₂, arith}
+use Rattle.std.proofs.Common.{ℕ, List, Some, rules, ◌≡◌, ◌≤◌, ◌-◌, ◌==◌, false, ◌∷◌, length, slice_range, IsTrue, refl, sym, ◌∙◌, ap, ap₂, arith}
 use Rattle.std.specs.Str.{IsUtf8}
 use Rattle.ansi_columns.specs.declared.wrap.pens.PenAt.{PenAt}
 use Rattle.ansi_columns.specs.declared.wrap.spans.Next.{Next}
@@ -139,3 +139,6 @@ returns-clause-lines c =
           (part ∙ ap (slice_range t s.taken) (taken-is w.taken-is) ∙ rest-is t s.taken)
           ∙ ap₂ (λ l p. l ∷ onward p) shown (sym w.taken-is)
     ]
+
+pub first_line-later-requires : goal.first_line-later-requires
+first_line-later-requires c = record { walk = c.requires.walk.is_walk; tight = refl }

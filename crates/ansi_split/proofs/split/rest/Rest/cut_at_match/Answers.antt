@@ -1,25 +1,7 @@
-use Rattle.ansi_split.proofs.Common.{◌≤◌, arith, rendition_of}
-use Rattle.ansi_split.proofs.RestLemmas.{boundary-drop, no_escape-drop, style-run, unmarked-run}
+use Rattle.ansi_split.proofs.Common.{sym, rendition_of}
+use Rattle.ansi_split.proofs.RestLemmas.{style-bare}
 use Rattle.ansi_split.proofs.split.rest.Rest.cut_at_match.Goals as goal
 
--- what is left of the run goes on after the cut
-pub invariant_of-result : goal.invariant_of-result
-invariant_of-result c =
-    let s = c.args.self.now in
-    let start = c.next_start-start.result in
-    rw c.split_at.ensures.back (record {
-      run_ends = boundary-drop s.text.now start s.run_len (omega arith) s.run_ends;
-      run_is_plain = no_escape-drop s.text.now start s.run_len s.run_is_plain;
-    })
-
 -- the front is a part of the run
-pub returns-then-start-self : goal.returns-then-start-self
-returns-then-start-self c =
-    let s = c.args.self.now in
-    let start = c.next_start-start.result in
-    let before : start ≤ s.run_len = omega arith in
-    record {
-      rest = rw (c.split_at.ensures.front, c.split_at.ensures.back) (c.next_start-start.ensures.cut c.if-start-self.true);
-      marked = rw c.split_at.ensures.front (unmarked-run s.text.now start s.run_len before s.run_is_plain);
-      style = rw c.split_at.ensures.front (style-run (rendition_of c.args.style.now) s.text.now start s.run_len before s.run_is_plain);
-    }
+pub returns-in-Ok-clause-style : goal.returns-in-Ok-clause-style
+returns-in-Ok-clause-style c = sym (style-bare (rendition_of c.args.style.now) c.in-Ok.front.now c.in-Ok.ensures.1)

@@ -1,7 +1,0 @@
-use Rattle.std.proofs.Common.{arith}
-use Rattle.ansi_split.proofs.SpanLemmas.{skip_at_front}
-use Rattle.ansi_split.proofs.split.spans.PartSpans.new.Goals as goal
-
--- no plain bytes are left out
-pub invariant_of-result : goal.invariant_of-result
-invariant_of-result c = (rw c.new.ensures (skip_at_front c.args.text.now c.utf8.text), omega arith)
