@@ -9,13 +9,14 @@ use Rattle.std.proofs.lemmas.List.{length-drop, drop-drop, get_or-drop, get_or-t
 use Rattle.memchr.specs.Find.{IsFirst, NoneBefore, Nowhere, Passes, is_byte, OccursAt, FindsNeedle}
 use Rattle.ansi_items.specs.Pieces.{Piece, pieces_of}
 use Rattle.ansi_items.specs.Plain.{plain, plain_of, has_escape}
+use Rattle.ansi_items.proofs.PlainLemmas.{plain-bare}
 use Rattle.ansi_style.specs.declared.state.rendition.Rendition.{Rendition}
 use Rattle.ansi_style.proofs.MarkLemmas.{style_by_marks-before}
 use Rattle.ansi_search.specs.Offsets.{offset_of}
 use Rattle.ansi_search.specs.Positions.{is_char_boundary}
 use Rattle.ansi_search.specs.Matches.{is_match, first_match_from}
 use Rattle.ansi_search.proofs.OffsetLemmas.{bytes_before-last, IsOverText}
-use Rattle.ansi_search.proofs.MatchLemmas.{IsMatch, is_match-drop, is_match-after, first_match_from-first, first_match_from-is, found_inside, none_inside, starts_with-splits, starts_with-from}
+use Rattle.ansi_search.proofs.MatchLemmas.{IsMatch, is_match-drop, is_match-after, first_match_from-first, first_match_from-is, found_inside, none_inside, none_at_end, starts_with-splits, starts_with-from}
 use Rattle.ansi_split.proofs.RestLemmas.{start_in_run, start_after_run, match_boundary_in_run}
 use Rattle.ansi_split.proofs.MatchWalkLemmas.{IsWalked}
 use Rattle.ansi_restyle.specs.Rests.{IsAtMatch, IsAtMatchPast, IsNextPlace}
@@ -176,6 +177,22 @@ no_match_in_item t p w o e k utf8 some ordered within is bare next low past ends
     ap (first_match_from (plain u) p) count
     ∙ no_match_in_run u p (e - o) (k - o) utf8 some size (ap has_escape (sym is) ∙ bare) (next-drop t p o k low next) (λ inside fits. past (omega (arith, inside)) (omega (arith, fits, low)))
     (subst (λ v. (y : List ℕ) (i : ℕ) → i < length v → IsMatch (v ++ y) p i → i + length p ≤ length v) is ends)
+
+-- the bytes don't occur, and the item is all that is left
+pub none_in_last : (t p w : List ℕ) (o e k : ℕ) → IsUtf8 p → 0 < length p → o ≤ e → e ≡ length t → w ≡ slice_range t o e → IsFalse (has_escape w) → IsNextPlace t p o k → o ≤ k → (k < e → length p ≤ e - k → ⊥)
+    → first_match_from (plain (drop o t)) p 0 ≡ None
+none_in_last t p w o e k utf8 some ordered last is bare next low past =
+    let u = drop o t in
+    let len : length u ≡ length t - o = length-drop o t in
+    let all : w ≡ u = is ∙ take_all (e - o) u (omega (arith, len, last)) in
+    let later : IsNextPlace u p 0 (k - o) = next-drop t p o k low next in
+    let none : FindsNeedle u p 0 None
+    = λ j zero high at. elim (cases_lt j (k - o)) [
+      | inl before ↦ later.before j zero before at
+      | inr after ↦ (let fits : j + length p ≤ length u = at.fits in past (omega (arith, after, fits, len, last, low, some, ordered)) (omega (arith, after, fits, len, last, low, ordered)))
+    ] in
+    ap (λ v. first_match_from v p 0) (plain-bare u (subst (λ v. IsFalse (has_escape v)) all bare))
+    ∙ sym (none_at_end u p 0 (length u) refl (λ empty. absurd (omega (arith, empty, some))) (none_inside u p 0 utf8 some (omega arith) none))
 
 -- a case of two
 pub match_option-map : {X : Type 0} {A A' : Type 0} {B B' : X → Type 0} (r : Option X) → (A → A') → ((x : X) → B x → B' x) → MatchOption r A B → MatchOption r A' B'

@@ -122,14 +122,14 @@ pub trait AnsiRestyle: AnsiStr {
             (is_change codes.now && are_in_turn (plain (Self.text self.now)) 0 ranges.now)) }
         ensures bytes { IfOk result (λ o. IfSome o (λ c.
             cow_str_bytes c ≡ restyled (Self.text self.now) (written codes.now) ranges.now)) }
+        ensures safe { (links : Links) → IsTrue (is_safe links (Self.text self.now)) →
+            IsTrue (keep_line_ends (plain (Self.text self.now)) ranges.now) → IfOk result (λ o.
+            IfSome o (λ c. IsTrue (is_safe links (cow_str_bytes c)))) }
         ensures borrowed { IfOk result (λ o. IfSome o (λ c.
             IsBorrowedStr c ↔ IsTrue (are_empty ranges.now))) }
         ensures len { IfOk result (λ o. IfSome o (λ c. length (cow_str_bytes c)
             ≤ length (Self.text self.now) + (length codes.now + 254)
             * (length ranges.now + length (filter is_text (pieces_of (Self.text self.now))) - 1))) }
-        ensures safe { (links : Links) → IsTrue (is_safe links (Self.text self.now)) →
-            IsTrue (keep_line_ends (plain (Self.text self.now)) ranges.now) → IfOk result (λ o.
-            IfSome o (λ c. IsTrue (is_safe links (cow_str_bytes c)))) }
         ensures takes_no_memory { IsTrue (are_empty ranges.now) ⊎ IsFalse
             (is_change codes.now && are_in_turn (plain (Self.text self.now)) 0 ranges.now) →
             IsOk result }
@@ -160,16 +160,16 @@ pub trait AnsiRestyle: AnsiStr {
         ensures bytes { IfOk result (λ o. IfSome o (λ c.
             cow_str_bytes c ≡ restyled (Self.text self.now) (written codes.now)
             (matches (plain (Self.text self.now)) pat.now))) }
+        ensures safe { (links : Links) → IsTrue (is_safe links (Self.text self.now)) →
+            IsTrue (keep_line_ends (plain (Self.text self.now))
+            (matches (plain (Self.text self.now)) pat.now)) → IfOk result (λ o. IfSome o (λ c.
+            IsTrue (is_safe links (cow_str_bytes c)))) }
         ensures borrowed { IfOk result (λ o. IfSome o (λ c. IsBorrowedStr c
             ↔ IsTrue (are_empty (matches (plain (Self.text self.now)) pat.now)))) }
         ensures len { IfOk result (λ o. IfSome o (λ c. length (cow_str_bytes c)
             ≤ length (Self.text self.now) + (length codes.now + 254)
             * (length (matches (plain (Self.text self.now)) pat.now)
             + length (filter is_text (pieces_of (Self.text self.now))) - 1))) }
-        ensures safe { (links : Links) → IsTrue (is_safe links (Self.text self.now)) →
-            IsTrue (keep_line_ends (plain (Self.text self.now))
-            (matches (plain (Self.text self.now)) pat.now)) → IfOk result (λ o. IfSome o (λ c.
-            IsTrue (is_safe links (cow_str_bytes c)))) }
         ensures takes_no_memory { IsTrue (are_empty (matches (plain (Self.text self.now)) pat.now))
             ⊎ IsFalse (is_change codes.now) → IsOk result }
     {
@@ -208,13 +208,13 @@ pub trait AnsiRestyle: AnsiStr {
             ↔ IsFalse (are_in_turn (plain (Self.text self.now)) 0 (range ∷ []))) }
         ensures bytes { IfOk result (λ o. IfSome o (λ c.
             cow_str_bytes c ≡ removed (Self.text self.now) range.0 range.1)) }
+        ensures safe { (links : Links) → IsTrue (is_safe links (Self.text self.now)) →
+            IsFalse (parts_line_end (plain (Self.text self.now)) range.0) → IfOk result (λ o.
+            IfSome o (λ c. IsTrue (is_safe links (cow_str_bytes c)))) }
         ensures borrowed { IfOk result (λ o. IfSome o (λ c.
             IsBorrowedStr c ↔ (range.0 ≡ range.1))) }
         ensures len { IfOk result (λ o. IfSome o (λ c.
             length (cow_str_bytes c) ≤ length (Self.text self.now))) }
-        ensures safe { (links : Links) → IsTrue (is_safe links (Self.text self.now)) →
-            IsFalse (parts_line_end (plain (Self.text self.now)) range.0) → IfOk result (λ o.
-            IfSome o (λ c. IsTrue (is_safe links (cow_str_bytes c)))) }
         ensures takes_no_memory { (range.0 ≡ range.1)
             ⊎ IsFalse (are_in_turn (plain (Self.text self.now)) 0 (range ∷ [])) → IsOk result }
     {
@@ -258,15 +258,15 @@ pub trait AnsiRestyle: AnsiStr {
             ↔ IsFalse (are_in_turn (plain (Self.text self.now)) 0 (range ∷ []))) }
         ensures bytes { IfOk result (λ o. IfSome o (λ c.
             cow_str_bytes c ≡ replaced (Self.text self.now) range.0 range.1 with.now)) }
+        ensures safe { (links : Links) →
+            IsTrue (is_safe links (Self.text self.now) && is_safe links with.now) →
+            IsFalse (parts_line_end (plain (Self.text self.now)) range.0) → IfOk result (λ o.
+            IfSome o (λ c. IsTrue (is_safe links (cow_str_bytes c)))) }
         ensures borrowed { IfOk result (λ o. IfSome o (λ c.
             IsBorrowedStr c ↔ ((range.0 ≡ range.1) × (with.now ≡ [])))) }
         ensures len { IfOk result (λ o. IfSome o (λ c.
             length (cow_str_bytes c) ≤ length (Self.text self.now) + length with.now
             + length (link_at (Self.text self.now) (range.0 - 1)) + 258)) }
-        ensures safe { (links : Links) →
-            IsTrue (is_safe links (Self.text self.now) && is_safe links with.now) →
-            IsFalse (parts_line_end (plain (Self.text self.now)) range.0) → IfOk result (λ o.
-            IfSome o (λ c. IsTrue (is_safe links (cow_str_bytes c)))) }
         ensures takes_no_memory { ((range.0 ≡ range.1) × (with.now ≡ []))
             ⊎ IsFalse (are_in_turn (plain (Self.text self.now)) 0 (range ∷ [])) → IsOk result }
     {
@@ -303,15 +303,15 @@ pub trait AnsiRestyle: AnsiStr {
             ↔ IsFalse (is_char_boundary (plain (Self.text self.now)) position)) }
         ensures bytes { IfOk result (λ o. IfSome o (λ c.
             cow_str_bytes c ≡ replaced (Self.text self.now) position position with.now)) }
+        ensures safe { (links : Links) →
+            IsTrue (is_safe links (Self.text self.now) && is_safe links with.now) →
+            IsFalse (parts_line_end (plain (Self.text self.now)) position) → IfOk result (λ o.
+            IfSome o (λ c. IsTrue (is_safe links (cow_str_bytes c)))) }
         ensures borrowed { IfOk result (λ o. IfSome o (λ c.
             IsBorrowedStr c ↔ (with.now ≡ []))) }
         ensures len { IfOk result (λ o. IfSome o (λ c.
             length (cow_str_bytes c) ≤ length (Self.text self.now) + length with.now
             + length (link_at (Self.text self.now) (position - 1)) + 258)) }
-        ensures safe { (links : Links) →
-            IsTrue (is_safe links (Self.text self.now) && is_safe links with.now) →
-            IsFalse (parts_line_end (plain (Self.text self.now)) position) → IfOk result (λ o.
-            IfSome o (λ c. IsTrue (is_safe links (cow_str_bytes c)))) }
         ensures takes_no_memory { (with.now ≡ [])
             ⊎ IsFalse (is_char_boundary (plain (Self.text self.now)) position) → IsOk result }
     {
@@ -350,17 +350,17 @@ pub trait AnsiRestyle: AnsiStr {
             (matches (plain (Self.text self.now)) pat.now) with.now (cow_str_bytes c)) }
         ensures bytes { IfOk result (λ c.
             cow_str_bytes c ≡ replaced_all (Self.text self.now) pat.now with.now) }
+        ensures safe { (links : Links) →
+            IsTrue (is_safe links (Self.text self.now) && is_safe links with.now) →
+            IsTrue (begin_outside_line_ends (plain (Self.text self.now))
+            (matches (plain (Self.text self.now)) pat.now)) →
+            IfOk result (λ c. IsTrue (is_safe links (cow_str_bytes c))) }
         ensures borrowed { IfOk result (λ c.
             IsBorrowedStr c ↔ (matches (plain (Self.text self.now)) pat.now ≡ [])) }
         ensures len { IfOk result (λ c. length (cow_str_bytes c)
             ≤ length (Self.text self.now) + sum_by (λ (r : ℕ × ℕ). length with.now
             + length (link_at (Self.text self.now) (r.0 - 1)) + 258)
             (matches (plain (Self.text self.now)) pat.now)) }
-        ensures safe { (links : Links) →
-            IsTrue (is_safe links (Self.text self.now) && is_safe links with.now) →
-            IsTrue (begin_outside_line_ends (plain (Self.text self.now))
-            (matches (plain (Self.text self.now)) pat.now)) →
-            IfOk result (λ c. IsTrue (is_safe links (cow_str_bytes c))) }
         ensures takes_no_memory { matches (plain (Self.text self.now)) pat.now ≡ [] →
             IsOk result }
     {
@@ -412,16 +412,16 @@ pub trait AnsiRestyle: AnsiStr {
             (are_in_turn (plain (Self.text self.now)) 0 (ranges_of (swaps_of edits.now)))) }
         ensures bytes { IfOk result (λ o. IfSome o (λ c.
             cow_str_bytes c ≡ replaced_each (Self.text self.now) (swaps_of edits.now))) }
-        ensures borrowed { IfOk result (λ o. IfSome o (λ c.
-            IsBorrowedStr c ↔ IsTrue (swap_nothing (swaps_of edits.now)))) }
-        ensures len { IfOk result (λ o. IfSome o (λ c. length (cow_str_bytes c)
-            ≤ length (Self.text self.now) + sum_by (λ (e : Swap). length e.text
-            + length (link_at (Self.text self.now) (e.range.0 - 1)) + 258) (swaps_of edits.now))) }
         ensures safe { (links : Links) →
             IsTrue (is_safe links (Self.text self.now) && are_safe links (swaps_of edits.now)) →
             IsTrue (begin_outside_line_ends (plain (Self.text self.now))
             (ranges_of (swaps_of edits.now))) → IfOk result (λ o. IfSome o (λ c.
             IsTrue (is_safe links (cow_str_bytes c)))) }
+        ensures borrowed { IfOk result (λ o. IfSome o (λ c.
+            IsBorrowedStr c ↔ IsTrue (swap_nothing (swaps_of edits.now)))) }
+        ensures len { IfOk result (λ o. IfSome o (λ c. length (cow_str_bytes c)
+            ≤ length (Self.text self.now) + sum_by (λ (e : Swap). length e.text
+            + length (link_at (Self.text self.now) (e.range.0 - 1)) + 258) (swaps_of edits.now))) }
         ensures takes_no_memory { IsTrue (swap_nothing (swaps_of edits.now)) ⊎ IsFalse
             (are_in_turn (plain (Self.text self.now)) 0 (ranges_of (swaps_of edits.now))) →
             IsOk result }
@@ -482,14 +482,14 @@ pub trait AnsiRestyle: AnsiStr {
             && are_in_turn (plain (Self.text self.now)) 0 (range ∷ []))) }
         ensures bytes { IfOk result (λ o. IfSome o (λ c.
             cow_str_bytes c ≡ with_link (Self.text self.now) range address.now)) }
+        ensures safe { (links : Links) → IsTrue (is_safe links (Self.text self.now)) →
+            IsTrue (keep_line_ends (plain (Self.text self.now)) (range ∷ [])) →
+            IfOk result (λ o. IfSome o (λ c. IsTrue (is_safe Keep (cow_str_bytes c)))) }
         ensures borrowed { IfOk result (λ o. IfSome o (λ c.
             IsBorrowedStr c ↔ (range.0 ≡ range.1))) }
         ensures len { IfOk result (λ o. IfSome o (λ c. length (cow_str_bytes c)
             ≤ length (Self.text self.now) + length address.now
             + length (link_at (Self.text self.now) range.1) + 21)) }
-        ensures safe { (links : Links) → IsTrue (is_safe links (Self.text self.now)) →
-            IsTrue (keep_line_ends (plain (Self.text self.now)) (range ∷ [])) →
-            IfOk result (λ o. IfSome o (λ c. IsTrue (is_safe Keep (cow_str_bytes c)))) }
         ensures takes_no_memory { (range.0 ≡ range.1) ⊎ IsFalse (is_clean_address address.now
             && are_in_turn (plain (Self.text self.now)) 0 (range ∷ [])) → IsOk result }
     {
@@ -515,12 +515,12 @@ pub trait AnsiRestyle: AnsiStr {
         ensures headline { IsTrue (is_whole (Self.text self.now)) → IfOk result (λ c.
             IsWithoutLinks (Self.text self.now) (cow_str_bytes c)) }
         ensures bytes { IfOk result (λ c. cow_str_bytes c ≡ without_links (Self.text self.now)) }
+        ensures safe { (links other : Links) → IsTrue (is_safe links (Self.text self.now)) →
+            IfOk result (λ c. IsTrue (is_safe other (cow_str_bytes c))) }
         ensures borrowed { IfOk result (λ c.
             IsBorrowedStr c ↔ IsFalse (has_link (Self.text self.now))) }
         ensures len { IfOk result (λ c.
             length (cow_str_bytes c) ≤ length (Self.text self.now)) }
-        ensures safe { (links other : Links) → IsTrue (is_safe links (Self.text self.now)) →
-            IfOk result (λ c. IsTrue (is_safe other (cow_str_bytes c))) }
         ensures takes_no_memory { IsFalse (has_link (Self.text self.now)) → IsOk result }
     {
         unlink_in(alloc, self.as_text())

@@ -186,10 +186,10 @@ pub fn unlink_in<'t, A: Allocator>(alloc: A, text: &'t str) -> Result<CowStr<'t,
     ensures headline { IsTrue (is_whole text.now) → IfOk result (λ c.
         IsWithoutLinks text.now (cow_str_bytes c)) }
     ensures bytes { IfOk result (λ c. cow_str_bytes c ≡ without_links text.now) }
-    ensures borrowed { IfOk result (λ c. IsBorrowedStr c ↔ IsFalse (has_link text.now)) }
-    ensures len { IfOk result (λ c. length (cow_str_bytes c) ≤ length text.now) }
     ensures safe { (links other : LinkPolicy.Links) → IsTrue (is_safe links text.now) →
         IfOk result (λ c. IsTrue (is_safe other (cow_str_bytes c))) }
+    ensures borrowed { IfOk result (λ c. IsBorrowedStr c ↔ IsFalse (has_link text.now)) }
+    ensures len { IfOk result (λ c. length (cow_str_bytes c) ≤ length text.now) }
     ensures takes_no_memory { IsFalse (has_link text.now) → IsOk result }
 {
     if !has_link(text) {
@@ -219,12 +219,12 @@ pub fn link_in<'t, A: Allocator>(
         (is_clean_address address.now && are_in_turn (plain text.now) 0 (range ∷ []))) }
     ensures bytes { IfOk result (λ o. IfSome o (λ c.
         cow_str_bytes c ≡ with_link text.now range address.now)) }
-    ensures borrowed { IfOk result (λ o. IfSome o (λ c. IsBorrowedStr c ↔ (range.0 ≡ range.1))) }
-    ensures len { IfOk result (λ o. IfSome o (λ c. length (cow_str_bytes c)
-        ≤ length text.now + length address.now + length (link_at text.now range.1) + 21)) }
     ensures safe { (links : LinkPolicy.Links) → IsTrue (is_safe links text.now) →
         IsTrue (keep_line_ends (plain text.now) (range ∷ [])) → IfOk result (λ o.
         IfSome o (λ c. IsTrue (is_safe Keep (cow_str_bytes c)))) }
+    ensures borrowed { IfOk result (λ o. IfSome o (λ c. IsBorrowedStr c ↔ (range.0 ≡ range.1))) }
+    ensures len { IfOk result (λ o. IfSome o (λ c. length (cow_str_bytes c)
+        ≤ length text.now + length address.now + length (link_at text.now range.1) + 21)) }
     ensures takes_no_memory { (range.0 ≡ range.1) ⊎ IsFalse
         (is_clean_address address.now && are_in_turn (plain text.now) 0 (range ∷ [])) →
         IsOk result }

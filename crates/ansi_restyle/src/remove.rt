@@ -32,11 +32,11 @@ pub fn remove_in<'t, A: Allocator>(
         IsNone o ↔ IsFalse (are_in_turn (plain text.now) 0 (range ∷ []))) }
     ensures bytes { IfOk result (λ o. IfSome o (λ c.
         cow_str_bytes c ≡ removed text.now range.0 range.1)) }
-    ensures borrowed { IfOk result (λ o. IfSome o (λ c. IsBorrowedStr c ↔ (range.0 ≡ range.1))) }
-    ensures len { IfOk result (λ o. IfSome o (λ c. length (cow_str_bytes c) ≤ length text.now)) }
     ensures safe { (links : Links) → IsTrue (is_safe links text.now) →
         IsFalse (parts_line_end (plain text.now) range.0) → IfOk result (λ o. IfSome o (λ c.
         IsTrue (is_safe links (cow_str_bytes c)))) }
+    ensures borrowed { IfOk result (λ o. IfSome o (λ c. IsBorrowedStr c ↔ (range.0 ≡ range.1))) }
+    ensures len { IfOk result (λ o. IfSome o (λ c. length (cow_str_bytes c) ≤ length text.now)) }
     ensures takes_no_memory { (range.0 ≡ range.1)
         ⊎ IsFalse (are_in_turn (plain text.now) 0 (range ∷ [])) → IsOk result }
 {

@@ -42,14 +42,14 @@ pub fn replace_in<'t, A: Allocator>(
         IsNone o ↔ IsFalse (are_in_turn (plain text.now) 0 (range ∷ []))) }
     ensures bytes { IfOk result (λ o. IfSome o (λ c.
         cow_str_bytes c ≡ replaced text.now range.0 range.1 with.now)) }
+    ensures safe { (links : Links) → IsTrue (is_safe links text.now && is_safe links with.now) →
+        IsFalse (parts_line_end (plain text.now) range.0) → IfOk result (λ o. IfSome o (λ c.
+        IsTrue (is_safe links (cow_str_bytes c)))) }
     ensures borrowed { IfOk result (λ o. IfSome o (λ c.
         IsBorrowedStr c ↔ ((range.0 ≡ range.1) × (with.now ≡ [])))) }
     ensures len { IfOk result (λ o. IfSome o (λ c.
         length (cow_str_bytes c) ≤ length text.now + length with.now
         + length (link_at text.now (range.0 - 1)) + 258)) }
-    ensures safe { (links : Links) → IsTrue (is_safe links text.now && is_safe links with.now) →
-        IsFalse (parts_line_end (plain text.now) range.0) → IfOk result (λ o. IfSome o (λ c.
-        IsTrue (is_safe links (cow_str_bytes c)))) }
     ensures takes_no_memory { ((range.0 ≡ range.1) × (with.now ≡ []))
         ⊎ IsFalse (are_in_turn (plain text.now) 0 (range ∷ [])) → IsOk result }
 {
@@ -92,13 +92,13 @@ pub fn insert_in<'t, A: Allocator>(
         IsNone o ↔ IsFalse (is_char_boundary (plain text.now) position)) }
     ensures bytes { IfOk result (λ o. IfSome o (λ c.
         cow_str_bytes c ≡ replaced text.now position position with.now)) }
+    ensures safe { (links : Links) → IsTrue (is_safe links text.now && is_safe links with.now) →
+        IsFalse (parts_line_end (plain text.now) position) → IfOk result (λ o. IfSome o (λ c.
+        IsTrue (is_safe links (cow_str_bytes c)))) }
     ensures borrowed { IfOk result (λ o. IfSome o (λ c. IsBorrowedStr c ↔ (with.now ≡ []))) }
     ensures len { IfOk result (λ o. IfSome o (λ c.
         length (cow_str_bytes c) ≤ length text.now + length with.now
         + length (link_at text.now (position - 1)) + 258)) }
-    ensures safe { (links : Links) → IsTrue (is_safe links text.now && is_safe links with.now) →
-        IsFalse (parts_line_end (plain text.now) position) → IfOk result (λ o. IfSome o (λ c.
-        IsTrue (is_safe links (cow_str_bytes c)))) }
     ensures takes_no_memory { (with.now ≡ [])
         ⊎ IsFalse (is_char_boundary (plain text.now) position) → IsOk result }
 {

@@ -33,14 +33,14 @@ pub fn replace_all_in<'t, A: Allocator>(
         IsReplacedAll text.now (matches (plain text.now) pat.now) with.now (cow_str_bytes c)) }
     ensures bytes { IfOk result (λ c.
         cow_str_bytes c ≡ replaced_all text.now pat.now with.now) }
+    ensures safe { (links : Links) → IsTrue (is_safe links text.now && is_safe links with.now) →
+        IsTrue (begin_outside_line_ends (plain text.now) (matches (plain text.now) pat.now)) →
+        IfOk result (λ c. IsTrue (is_safe links (cow_str_bytes c))) }
     ensures borrowed { IfOk result (λ c.
         IsBorrowedStr c ↔ (matches (plain text.now) pat.now ≡ [])) }
     ensures len { IfOk result (λ c. length (cow_str_bytes c) ≤ length text.now
         + sum_by (λ (r : ℕ × ℕ). length with.now + length (link_at text.now (r.0 - 1)) + 258)
         (matches (plain text.now) pat.now)) }
-    ensures safe { (links : Links) → IsTrue (is_safe links text.now && is_safe links with.now) →
-        IsTrue (begin_outside_line_ends (plain text.now) (matches (plain text.now) pat.now)) →
-        IfOk result (λ c. IsTrue (is_safe links (cow_str_bytes c))) }
     ensures takes_no_memory { matches (plain text.now) pat.now ≡ [] → IsOk result }
 {
     if find_from(text, 0, pat).is_none() {

@@ -58,15 +58,15 @@ pub fn replace_each_in<'t, A: Allocator>(
         ↔ IsFalse (are_in_turn (plain text.now) 0 (ranges_of (swaps_of edits.now)))) }
     ensures bytes { IfOk result (λ o. IfSome o (λ c.
         cow_str_bytes c ≡ replaced_each text.now (swaps_of edits.now))) }
+    ensures safe { (links : Links) →
+        IsTrue (is_safe links text.now && are_safe links (swaps_of edits.now)) →
+        IsTrue (begin_outside_line_ends (plain text.now) (ranges_of (swaps_of edits.now))) →
+        IfOk result (λ o. IfSome o (λ c. IsTrue (is_safe links (cow_str_bytes c)))) }
     ensures borrowed { IfOk result (λ o. IfSome o (λ c.
         IsBorrowedStr c ↔ IsTrue (swap_nothing (swaps_of edits.now)))) }
     ensures len { IfOk result (λ o. IfSome o (λ c. length (cow_str_bytes c)
         ≤ length text.now + sum_by (λ (e : Swap). length e.text
         + length (link_at text.now (e.range.0 - 1)) + 258) (swaps_of edits.now))) }
-    ensures safe { (links : Links) →
-        IsTrue (is_safe links text.now && are_safe links (swaps_of edits.now)) →
-        IsTrue (begin_outside_line_ends (plain text.now) (ranges_of (swaps_of edits.now))) →
-        IfOk result (λ o. IfSome o (λ c. IsTrue (is_safe links (cow_str_bytes c)))) }
     ensures takes_no_memory { IsTrue (swap_nothing (swaps_of edits.now))
         ⊎ IsFalse (are_in_turn (plain text.now) 0 (ranges_of (swaps_of edits.now))) →
         IsOk result }

@@ -51,14 +51,14 @@ pub fn restyle_in<'t, A: Allocator + Copy>(
         ↔ IsFalse (is_change codes.now && are_in_turn (plain text.now) 0 ranges.now)) }
     ensures bytes { IfOk result (λ o. IfSome o (λ c.
         cow_str_bytes c ≡ restyled text.now (written codes.now) ranges.now)) }
+    ensures safe { (links : Links) → IsTrue (is_safe links text.now) →
+        IsTrue (keep_line_ends (plain text.now) ranges.now) → IfOk result (λ o.
+        IfSome o (λ c. IsTrue (is_safe links (cow_str_bytes c)))) }
     ensures borrowed { IfOk result (λ o. IfSome o (λ c.
         IsBorrowedStr c ↔ IsTrue (are_empty ranges.now))) }
     ensures len { IfOk result (λ o. IfSome o (λ c. length (cow_str_bytes c) ≤ length text.now
         + (length codes.now + 254)
         * (length ranges.now + length (filter is_text (pieces_of text.now)) - 1))) }
-    ensures safe { (links : Links) → IsTrue (is_safe links text.now) →
-        IsTrue (keep_line_ends (plain text.now) ranges.now) → IfOk result (λ o.
-        IfSome o (λ c. IsTrue (is_safe links (cow_str_bytes c)))) }
     ensures takes_no_memory { IsTrue (are_empty ranges.now)
         ⊎ IsFalse (is_change codes.now && are_in_turn (plain text.now) 0 ranges.now) →
         IsOk result }
@@ -93,14 +93,14 @@ pub fn mark_in<'t, A: Allocator + Copy>(
     ensures none { IfOk result (λ o. IsNone o ↔ IsFalse (is_change codes.now)) }
     ensures bytes { IfOk result (λ o. IfSome o (λ c. cow_str_bytes c
         ≡ restyled text.now (written codes.now) (matches (plain text.now) pat.now))) }
+    ensures safe { (links : Links) → IsTrue (is_safe links text.now) →
+        IsTrue (keep_line_ends (plain text.now) (matches (plain text.now) pat.now)) →
+        IfOk result (λ o. IfSome o (λ c. IsTrue (is_safe links (cow_str_bytes c)))) }
     ensures borrowed { IfOk result (λ o. IfSome o (λ c.
         IsBorrowedStr c ↔ IsTrue (are_empty (matches (plain text.now) pat.now)))) }
     ensures len { IfOk result (λ o. IfSome o (λ c. length (cow_str_bytes c) ≤ length text.now
         + (length codes.now + 254) * (length (matches (plain text.now) pat.now)
         + length (filter is_text (pieces_of text.now)) - 1))) }
-    ensures safe { (links : Links) → IsTrue (is_safe links text.now) →
-        IsTrue (keep_line_ends (plain text.now) (matches (plain text.now) pat.now)) →
-        IfOk result (λ o. IfSome o (λ c. IsTrue (is_safe links (cow_str_bytes c)))) }
     ensures takes_no_memory { IsTrue (are_empty (matches (plain text.now) pat.now))
         ⊎ IsFalse (is_change codes.now) → IsOk result }
 {
@@ -229,12 +229,11 @@ fn first_match<'t, 'p>(text: &'t str, pat: &'p str, style: &mut Style) -> Option
         at.rest.rest.text.now (rendition_of style.old) (rendition_of style.new)) }
 {
     // most texts that are searched have no match, and a finder is dear for a short one
-    search::find_from(text, pat, 0)?;
-    let finder = Finder::new(pat.as_bytes());
-    let first = Unmarked::new(text, pat).cut(&finder, style);
-    // (it owns nothing; a drop would need `Global`, which a module of WebAssembly lacks)
-    mem::forget(finder);
-    first
+    let place = search::find_from(text, pat, 0)?;
+    let at = Rest::new(text).split_at(style, place).unwrap();
+    let rest = Unmarked::new(at.rest, pat);
+    let front = at.front;
+    Some(AtMatch { front, rest })
 }
 
 /// A text with a change in each match of a pattern that isn't empty. `first` is the text in two at
@@ -256,6 +255,7 @@ fn marked_text<A: Allocator>(
     let mut out = String::with_capacity(alloc, text.len())?;
     let finder = Finder::new(first.rest.pat.as_bytes());
     let pushed = push_marked(&mut out, text, first, &finder, style, change);
+    // (it owns nothing; a drop would need `Global`, which a module of WebAssembly lacks)
     mem::forget(finder);
     pushed?;
     Ok(out)

@@ -38,16 +38,13 @@ pub(crate) struct AtMatch<'t, 'p> {
 }
 
 impl<'t, 'p> Unmarked<'t, 'p> {
-    /// All of the text.
-    pub(crate) fn new(text: &'t str, pat: &'p str) -> Self
-        ensures text { result.rest.text.now ≡ text.entry.now }
+    /// This rest of a text, of which nothing was seen.
+    pub(crate) fn new(rest: Rest<'t>, pat: &'p str) -> Self
+        ensures text { result.rest.text.now ≡ rest.entry.text.now }
         ensures pat { result.pat.now ≡ pat.entry.now }
     {
-        Unmarked {
-            rest: Rest::new(text),
-            pat,
-            seen: 0,
-        }
+        let seen = 0;
+        Unmarked { rest, pat, seen }
     }
 
     /// The text in two at the first match, or `None` if there is none. The finder is one of the
@@ -68,11 +65,7 @@ impl<'t, 'p> Unmarked<'t, 'p> {
         if near < run_len && pattern.len() <= run_len - near {
             let (front, text) = text.split_at(near);
             let run_len = run_len - near;
-            let rest = Unmarked {
-                rest: Rest { text, run_len },
-                pat: self.pat,
-                seen: 0,
-            };
+            let rest = Unmarked::new(Rest { text, run_len }, self.pat);
             return Some(AtMatch { front, rest });
         }
         cut_from(text, self.pat, finder, near, style)
@@ -117,12 +110,12 @@ fn cut_from<'t, 'p>(
                 if near < item.end && pat.len() <= item.end - near {
                     let (front, text) = text.split_at(near);
                     let run_len = item.end - near;
-                    let rest = Unmarked {
-                        rest: Rest { text, run_len },
-                        pat,
-                        seen: 0,
-                    };
+                    let rest = Unmarked::new(Rest { text, run_len }, pat);
                     return Some(AtMatch { front, rest });
+                }
+                if item.end == text.len() {
+                    // Nothing follows in which a match could go on.
+                    return None;
                 }
                 if may_go_on(piece, pat) {
                     return cut_across(text, item.start, near, pat, style);

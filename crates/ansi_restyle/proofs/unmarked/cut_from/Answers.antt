@@ -11,7 +11,7 @@ use Rattle.ansi_search.proofs.OffsetLemmas.{over_text, over_mark}
 use Rattle.ansi_split.proofs.RestLemmas.{boundary-drop, no_escape-later, no_escape-text}
 use Rattle.ansi_split.proofs.MatchWalkLemmas.{walked-begin, walked-text, walked-mark, walked-none}
 use Rattle.ansi_restyle.specs.Rests.{IsAtMatchPast, IsNextPlace}
-use Rattle.ansi_restyle.proofs.UnmarkedLemmas.{next-later, settled, match_in_item, no_match_in_item, match_option-map, walked-at_match, walked-past, walked-past_none}
+use Rattle.ansi_restyle.proofs.UnmarkedLemmas.{next-later, settled, match_in_item, no_match_in_item, none_in_last, match_option-map, walked-at_match, walked-past, walked-past_none}
 use Rattle.ansi_restyle.proofs.unmarked.cut_from.Goals as goal
 use Rattle.ansi_restyle.proofs.unmarked.cut_from.Goals.{else-near-item-via-then-near-item+else-pat-item, else-near-item-via-else-near-item}
 
@@ -63,8 +63,8 @@ split_at-requires c =
     (match_in_item t c.args.pat.now w c.in-Some.item.start c.in-Some.item.end c.next_place-near.result c.utf8.pat c.requires.some (omega (arith, gives.forward)) end.0
     c.range-piece.ensures.value bare next c.next_place-near.ensures.low c.if-near-item.true c.if-pat-item.true).1
 
-pub invariant_of-rest : goal.invariant_of-rest
-invariant_of-rest c =
+pub invariant_of-new : goal.invariant_of-new
+invariant_of-new c =
     let t = c.args.text.now in
     let w = c.range-piece.result.now in
     let s = c.loop-item.item-iterator in
@@ -97,10 +97,32 @@ returns-then-pat-item c =
     let found = (match_in_item t p w item.start item.end near c.utf8.pat c.requires.some (omega (arith, gives.forward)) end.0 c.range-piece.ensures.value bare next c.next_place-near.ensures.low c.if-near-item.true c.if-pat-item.true).0 in
     let here : plain (drop item.start t) ≡ w ++ plain_of (pieces_left c.next.new.self) = ap (λ n. plain (drop n t)) gives.start ∙ ap plain_of (over.there ∙ over.first) in
     let low = c.next_place-near.ensures.low in (
-      refl,
-      rw (c.split_at.ensures.front, c.split_at.ensures.back) (walked-at_match c.loop-item.invariant.so_far over (ap (λ x. first_match_from x p 0) (sym here) ∙ found)
+      c.new-rest.ensures.pat,
+      rw (c.new-rest.ensures.text, c.split_at.ensures.front, c.split_at.ensures.back) (walked-at_match c.loop-item.invariant.so_far over (ap (λ x. first_match_from x p 0) (sym here) ∙ found)
           (omega (arith, low, c.if-near-item.true, c.range-piece.ensures.len)) (omega (arith, low, gives.start))),
     )
+
+-- nothing follows the run
+pub returns-then-item-text : goal.returns-then-item-text
+returns-then-item-text c =
+    let t = c.args.text.now in
+    let p = c.args.pat.now in
+    let w = c.range-piece.result.now in
+    let s = c.loop-item.item-iterator in
+    let gives = c.in-Some.ensures.steps in
+    let same = c.loop-item.invariant.text in
+    let item = c.in-Some.item in
+    let near = c.next_place-near.result in
+    let over = over_text gives same c.range-piece.ensures.value c.in-Text.is in
+    let bare : IsFalse (has_escape w) = no_escape-text (drop s.offset s.text) w (pieces_left c.next.new.self) (gives_text gives same c.range-piece.ensures.value c.in-Text.is) in
+    let next : IsNextPlace t p item.start near = rw (c.as_bytes.ensures.value, c.requires.finder) at c.next_place-near.ensures.next in
+    let past : near < item.end → length p ≤ item.end - near → ⊥
+    = λ inside fits. elim c.else-near-item.branch [
+      | else-near-item-via-then-near-item+else-pat-item longer ↦ (let over_end = longer.if-pat-item.false in omega (arith, fits, over_end))
+      | else-near-item-via-else-near-item after ↦ (let is_after = after.if-near-item.false in omega (arith, inside, is_after))
+    ] in
+    walked-past_none c.loop-item.invariant.so_far over.there (ap (λ n. first_match_from (plain (drop n t)) p 0) (sym gives.start)
+    ∙ none_in_last t p w item.start item.end near c.utf8.pat c.requires.some (omega (arith, gives.forward)) c.if-item-text.true c.range-piece.ensures.value bare next c.next_place-near.ensures.low past)
 
 -- it may go on after it
 pub returns-then-may_go_on : goal.returns-then-may_go_on

@@ -27,8 +27,8 @@ split_at-requires c =
     (omega (arith, c.as_bytes-pattern.ensures.len, c.if-pattern-run_len.true)) in
     match_boundary_in_run t p 0 s.rest.run_len near s.rest.run_ends.0 s.rest.run_is_plain c.if-near-run_len.true found
 
-pub invariant_of-rest : goal.invariant_of-rest
-invariant_of-rest c =
+pub invariant_of-new : goal.invariant_of-new
+invariant_of-new c =
     let s = c.args.self.now in
     let near = c.place_from-near.result in
     rw c.split_at.ensures.back (record {
@@ -45,4 +45,4 @@ returns-then-pattern-run_len c =
     let next : IsNextPlace t p s.seen near = rw (c.as_bytes.ensures.value, c.requires.finder) at c.place_from-near.ensures.next in
     let found = match_in_run t p s.rest.run_len near (subst IsUtf8 c.as_bytes-pattern.ensures.value c.as_bytes-pattern.ensures.utf8) c.requires.some s.rest.run_ends.0 s.rest.run_is_plain (next-seen t p s.seen near s.is_seen next) c.if-near-run_len.true
     (omega (arith, c.as_bytes-pattern.ensures.len, c.if-pattern-run_len.true)) in
-    (refl, rw (c.split_at.ensures.front, c.split_at.ensures.back) (at_match_in_run (rendition_of c.args.style.now) t p s.rest.run_len near s.rest.run_ends.0 s.rest.run_is_plain c.if-near-run_len.true found))
+    (c.new-rest.ensures.pat, rw (c.new-rest.ensures.text, c.split_at.ensures.front, c.split_at.ensures.back) (at_match_in_run (rendition_of c.args.style.now) t p s.rest.run_len near s.rest.run_ends.0 s.rest.run_is_plain c.if-near-run_len.true found))
