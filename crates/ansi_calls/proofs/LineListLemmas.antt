@@ -10,7 +10,8 @@ use Rattle.unicode_segmentation.specs.Grapheme.{is_grapheme_break}
 use Rattle.unicode_segmentation.specs.Segments.{segments}
 use Rattle.unicode_segmentation.proofs.SegmentsLemmas.{AllPieces, segments_nonempty}
 use Rattle.ansi_items.specs.Plain.{Mark, plain, marks_up_to, has_escape}
-use Rattle.ansi_items.proofs.PlainLemmas.{plain-bare}
+use Rattle.ansi_items.proofs.PlainLemmas.{plain-bare, length-plain}
+use Rattle.ansi_items.proofs.Utf8Lemmas.{IsUtf8-plain}
 use Rattle.ansi_style.specs.Rendition.{plain_style}
 use Rattle.ansi_style.specs.Reading.{after_marks}
 use Rattle.ansi_style.specs.Written.{start}
@@ -19,16 +20,17 @@ use Rattle.ansi_style.proofs.UnsetLemmas.{start-unset}
 use Rattle.ansi_slice.specs.Cut.{interleaved}
 use Rattle.ansi_str.specs.Parts.{marks_past}
 use Rattle.ansi_slice.proofs.InterleavedLemmas.{interleaved-bare}
-use Rattle.ansi_columns.specs.Columns.{clusters, cluster_width}
+use Rattle.ansi_columns.specs.Columns.{clusters, cluster_width, lined}
 use Rattle.ansi_safe.specs.Cells.{paragraph}
 use Rattle.ansi_safe.specs.Links.{link_after_all}
-use Rattle.ansi_columns.specs.Lines.{lines_from, lines, AreLinesFrom}
+use Rattle.ansi_columns.specs.Lines.{lines_from, lines, place_line, shown_lines, AreLinesFrom}
 use Rattle.ansi_columns.specs.Wrapped.{CarriedPart, pen_end, line_over, lines_over, wrapped}
 use Rattle.ansi_columns.proofs.LentLemmas.{wrapped-itself}
 use Rattle.ansi_columns.proofs.LineLemmas.{line-any, line-last}
+use Rattle.ansi_columns.proofs.ShownLineLemmas.{lined-length, lined-utf8}
 use Rattle.ansi_columns.proofs.ClusterLawLemmas.{clusters_after-bytes}
 use Rattle.ansi_calls.proofs.GivenLemmas.{joined_texts}
-use Rattle.ansi_calls.specs.Columns.{wrapped_lines}
+use Rattle.ansi_calls.specs.Columns.{line_entry, line_entries, wrapped_lines}
 
 -- Their bytes.
 
@@ -101,6 +103,20 @@ few-clusters x utf8 = omega (arith, few-pieces (clusters x) (segments_nonempty (
 -- a text has at most one line more than bytes
 pub few-lines_of : (x : List ℕ) (width : ℕ) → IsUtf8 x → length (lines width x) ≤ length x + 1
 few-lines_of x width utf8 = omega (arith, few-lines (clusters x) (max width 1) 0 0 0 0, few-clusters x utf8)
+
+-- and so has what is shown of a text
+pub few_entries : (t : List ℕ) (width : ℕ) → IsUtf8 t → length (line_entries t width) ≤ length t + 1
+few_entries t width utf8 =
+    let x = plain t in
+    let bytes = IsUtf8-plain t utf8 in
+    omega (
+      arith,
+      length-map (shown_lines width x) line_entry,
+      length-map (lines width (lined x)) (place_line x),
+      few-lines_of (lined x) width (lined-utf8 x bytes),
+      lined-length x bytes,
+      length-plain t,
+    )
 
 -- of all lines of a text without ESC, the bytes and the number
 pub bare-wrapped : (t : List ℕ) (width : ℕ) → paragraph t ≡ t → IsFalse (has_escape t) → IsUtf8 t → AreLinesFrom t 0 (lines width t)

@@ -157,18 +157,22 @@ pub fn lines(text: &[u8], width: usize, entries: &mut [LineEntry]) -> ListAnswer
 }
 
 /// Writes where each line begins and ends, if there is room for all of them.
+#[tactic(auto, using(crate::proofs::LineListLemmas::few_entries))]
 fn write_lines(text: &str, width: usize, entries: &mut [LineEntry]) -> ListAnswer
     ensures { AreWritten [] (line_entries text.now width) result [] [] entries.old entries.new }
 {
-    let count = copy_lines(text, width, &mut []);
-    if count > entries.len() {
-        return ListAnswer {
-            status: TOO_SMALL,
-            count,
-            len: 0,
-        };
+    // There is at most one line more than the text has bytes, so they fit if the entries are as many.
+    if entries.len() <= text.len() {
+        let count = copy_lines(text, width, &mut []);
+        if count > entries.len() {
+            return ListAnswer {
+                status: TOO_SMALL,
+                count,
+                len: 0,
+            };
+        }
     }
-    copy_lines(text, width, entries);
+    let count = copy_lines(text, width, entries);
     ListAnswer {
         status: OK,
         count,

@@ -1,16 +1,13 @@
 use Rattle.std.proofs.Common.{◌∙◌, ◌+◌, ◌∷◌, [], ◌++◌, length, take, drop, map, refl, sym, ap, arith, append_assoc, length-append}
 use Rattle.std.proofs.lemmas.List.{length_push, length-map, map-append}
 use Rattle.ansi_items.specs.Plain.{plain}
-use Rattle.ansi_items.proofs.PlainLemmas.{length-plain}
-use Rattle.ansi_items.proofs.Utf8Lemmas.{IsUtf8-plain}
 use Rattle.ansi_columns.specs.Columns.{clusters, lined}
-use Rattle.ansi_columns.specs.Lines.{lines, place_line}
+use Rattle.ansi_columns.specs.Lines.{lines, place_line, shown_lines}
 use Rattle.ansi_columns.proofs.FirstFitLawLemmas.{first_fit-unique}
 use Rattle.ansi_columns.proofs.FirstFitLemmas.{lines-first_fit}
-use Rattle.ansi_columns.proofs.ShownLineLemmas.{lined-length, lined-utf8}
 use Rattle.ansi_calls.specs.Columns.{line_entry}
 use Rattle.ansi_calls.proofs.GivenLemmas.{written-more}
-use Rattle.ansi_calls.proofs.LineListLemmas.{few-lines_of}
+use Rattle.ansi_calls.proofs.LineListLemmas.{few_entries}
 use Rattle.ansi_calls.proofs.lines.copy_lines.Goals as goal
 
 -- first fit has these lines alone
@@ -28,19 +25,16 @@ loop-line-init c =
 pub put-count-requires : goal.put-count-requires
 put-count-requires c =
     let t = c.args.text.now in
+    let width = c.args.width in
     let so_far = c.loop-line.invariant.copied in
     let all = ap (λ ls. so_far.0 ++ ls) (sym c.in-Some.ensures.steps) ∙ so_far.1 in
-    let x = plain t in
-    let utf8 = IsUtf8-plain t c.utf8.text in
     omega (
       arith,
       so_far.2,
       ap length all,
       length-append so_far.0 (c.in-Some.line ∷ c.next.new.self),
-      length-map (lines c.args.width (lined x)) (place_line x),
-      few-lines_of (lined x) c.args.width (lined-utf8 x utf8),
-      lined-length x utf8,
-      length-plain t,
+      length-map (shown_lines width (plain t)) line_entry,
+      few_entries t width c.utf8.text,
     )
 
 -- a line more is counted and written
