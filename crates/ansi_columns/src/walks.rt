@@ -117,6 +117,19 @@ impl Walk {
         if next.end == 0 {
             return self.next_cluster(text, view);
         }
+        self.cluster_over_runs(text, next, view)
+    }
+
+    /// The same if `next` is a run. (Not inlined: it is rare, and callers would grow too large to
+    /// be inlined themselves.)
+    #[inline(never)]
+    fn cluster_over_runs(self, text: &str, next: Run, view: View) -> Option<(Walk, usize)>
+        requires walk { IsWalkIn view text.now self }
+        requires some { 0 < next.end }
+        requires next { IsNextRun view text.now self next }
+        ensures { IsSomeAnd result (λ (walk, width).
+            IsPastCluster view text.now self walk width) }
+    {
         self.cluster_over(text, next, view)
     }
 
