@@ -4,7 +4,7 @@ use Rattle.std.specs.Int.{is_in_range}
 use Rattle.std.proofs.lemmas.Bool.{and_parts, cases_lt, leb-true}
 use Rattle.std.proofs.lemmas.Bool.Decides.{nat_tests}
 use Rattle.ucd_table.specs.Rows.{Range, in_ranges}
-use Rattle.ucd_table.specs.Trie.{IsTrie, trie_value}
+use Rattle.ucd_table.specs.Trie.{IsTrie, trie_value, block_value}
 use Rattle.ucd_table.proofs.StepsLemmas.{rises_from}
 use Rattle.ucd_table.proofs.Stepped.{Stepped, zip_stepped, of_ranges, runs_of}
 use Rattle.ucd_table.proofs.TrieCheck.{trie_ok, trie_ok-IsTrie, trie_value-Stepped}
@@ -207,6 +207,15 @@ only_syllables = Stepped-everywhere _ (zip_stepped (λ r g. r || not (is_syllabl
 syllable-outside : (c : ℕ) → is_in_range 0xAC00 0xD7A3 c ≡ false → in_ranges syllable_ranges c ≡ false
 unfolding in_ranges
 syllable-outside c outside = ap (λ b. b || false) outside
+
+-- U+2026, an ellipsis, has one column
+
+value-ellipsis : trie_value 2 2 BLOCKS WORDS REST 0x2026 ≡ 1
+unfolding tables trie_value block_value
+value-ellipsis = refl
+
+pub IsShownSingle-ellipsis : IsShownSingle 0x2026 1
+IsShownSingle-ellipsis = IsShownSingle-columns 0x2026 1 (sym value-ellipsis ∙ trie_value-singles 0x2026 (omega arith)) (omega arith)
 
 -- no rule names the value of any other single character
 pub single-elsewhere : (c : ℕ) → IsSingleValue (grapheme_cluster_break c) → is_in_range 0xAC00 0xD7A3 c ≡ false → Other ≡ grapheme_cluster_break c

@@ -276,16 +276,27 @@ fn truncation<'a>(text: &str, width: usize, tail: &'a str, from: Fitted) -> Cut<
     if whole.is_all {
         return alone;
     }
-    let tail_width = widths::width(tail, View::Given);
-    if width < tail_width {
+    let columns = tail_width(tail);
+    if width < columns {
         return alone;
     }
-    let front = fitting_front(text, width - tail_width, View::Shown);
+    let front = fitting_front(text, width - columns, View::Shown);
     Cut {
         end: front.walk,
         tail,
         missing: is_apart(front.walk, tail).then_some(front.left),
     }
+}
+
+/// The columns of a tail. Those of `…` are known without a walk.
+#[inline(always)]
+pub(crate) fn tail_width(tail: &str) -> usize
+    ensures { result ≡ columns (plain tail.now) }
+{
+    if tail == "…" {
+        return 1;
+    }
+    widths::width(tail, View::Given)
 }
 
 /// The columns that are left for a text that doesn't fit, and the tail that is written after it. The
@@ -297,7 +308,7 @@ fn beside<'a>(width: usize, tail: &'a str) -> (usize, &'a str)
         result.1.now ≡ (if has_tail t width tail.entry.now then tail.entry.now else []) }
     ensures sum { result.0 + columns (plain result.1.now) ≡ width }
 {
-    let columns = widths::width(tail, View::Given);
+    let columns = tail_width(tail);
     if width < columns {
         (width, "")
     } else {
@@ -313,14 +324,24 @@ fn is_apart(walk: Walk, tail: &str) -> bool
         walk.break_state ≡ break_state_of before →
         is_grapheme_break true before (chars tail.now) ≡ true }
 {
-    let (start, end) = first_run(tail);
-    if 0 < start || end < tail.len() {
+    if !is_bare(tail) {
         return false;
     }
     match tail.chars().next() {
         Some(first) => walk.break_state.ends_before(first),
         None => true,
     }
+}
+
+/// Whether a tail has no sequence. That of `…` is known without a search. `false` says nothing.
+#[inline(always)]
+fn is_bare(tail: &str) -> bool
+    ensures { IsTrue result → IsTrue (list_all is_plain_byte tail.now) }
+{
+    if tail == "…" {
+        return true;
+    }
+    first_run(tail) == (0, tail.len())
 }
 
 /// A text between the missing blanks, with what ends its pen and a tail after it.

@@ -16,7 +16,7 @@ ghost use Rattle.ansi_columns.specs.Shown.{truncated_ending, KeptStays, closing,
 ghost use Rattle.ansi_columns.specs.Sides.{is_cut_at_end, fitting_tail, cut_before_end};
 ghost use Rattle.ansi_columns.specs.Sides.{truncated_at};
 
-use crate::shown::{closed_cell, truncate_beside};
+use crate::shown::{closed_cell, tail_width, truncate_beside};
 use crate::slices::push_slice;
 use crate::views::View;
 use crate::widths;
@@ -209,7 +209,7 @@ fn cut_before_end<A: Allocator>(
         + 2 * (longest_start_and_close + longest_link_end)) }
 {
     let tail = fitting_tail(to.tail, to.width);
-    let room = to.width.saturating_sub(widths::width(tail, View::Given));
+    let room = to.width.saturating_sub(tail_width(tail));
     let first = to.side.before_tail(room);
     let mut out = String::new(alloc);
     push_slice(&mut out, text, 0, first)?;
@@ -222,9 +222,5 @@ fn cut_before_end<A: Allocator>(
 fn fitting_tail(tail: &str, width: usize) -> &str
     ensures { result.now ≡ fitting_tail width tail.entry.now }
 {
-    if widths::width(tail, View::Given) <= width {
-        tail
-    } else {
-        ""
-    }
+    if tail_width(tail) <= width { tail } else { "" }
 }

@@ -30,32 +30,32 @@ returns-then-whole-clause-missing c =
 
 -- the tail is too wide
 
-pub returns-then-width-tail_width-clause-fits : goal.returns-then-width-tail_width-clause-fits
-returns-then-width-tail_width-clause-fits c =
+pub returns-then-width-columns-clause-fits : goal.returns-then-width-columns-clause-fits
+returns-then-width-columns-clause-fits c =
     subst (λ n. SeesUpTo Shown c.args.text.now n c.fitting_front_from-whole.result.walk.position)
-    (sym (width-wide (cell c.args.text.now) c.args.tail.now c.args.width (omega (arith, c.width-tail_width.ensures))).0) c.fitting_front_from-whole.ensures.fits
+    (sym (width-wide (cell c.args.text.now) c.args.tail.now c.args.width (omega (arith, c.tail_width-columns.ensures))).0) c.fitting_front_from-whole.ensures.fits
 
-pub returns-then-width-tail_width-clause-tail : goal.returns-then-width-tail_width-clause-tail
-returns-then-width-tail_width-clause-tail c = (width-wide (cell c.args.text.now) c.args.tail.now c.args.width (omega (arith, c.width-tail_width.ensures))).1
+pub returns-then-width-columns-clause-tail : goal.returns-then-width-columns-clause-tail
+returns-then-width-columns-clause-tail c = (width-wide (cell c.args.text.now) c.args.tail.now c.args.width (omega (arith, c.tail_width-columns.ensures))).1
 
-pub returns-then-width-tail_width-clause-missing : goal.returns-then-width-tail_width-clause-missing
-returns-then-width-tail_width-clause-missing c =
+pub returns-then-width-columns-clause-missing : goal.returns-then-width-columns-clause-missing
+returns-then-width-columns-clause-missing c =
     let t = c.args.text.now in
     let whole = c.fitting_front_from-whole.ensures in
     let at = c.fitting_front_from-whole.result.walk in
-    let is = width-wide (cell t) c.args.tail.now c.args.width (omega (arith, c.width-tail_width.ensures)) in
+    let is = width-wide (cell t) c.args.tail.now c.args.width (omega (arith, c.tail_width-columns.ensures)) in
     lack-alone t c.utf8.text c.args.width c.args.tail.now at whole.walk (subst (λ n. SeesUpTo Shown t n at.position) (sym is.0) whole.fits) c.fitting_front_from-whole.result.left whole.left is.1
 
 -- the text fits beside the tail
 
 pub returns-clause-fits : goal.returns-clause-fits
 returns-clause-fits c =
-    let beside = (width-tail (cell c.args.text.now) c.args.tail.now c.args.width (sym c.fitting_front_from-whole.ensures.all ∙ c.if-whole.false) (omega (arith, c.width-tail_width.ensures))).0 in
-    subst (λ n. SeesUpTo Shown c.args.text.now n c.fitting_front-front.result.walk.position) (sym (beside ∙ ap (λ n. c.args.width - n) (sym c.width-tail_width.ensures))) c.fitting_front-front.ensures.fits
+    let beside = (width-tail (cell c.args.text.now) c.args.tail.now c.args.width (sym c.fitting_front_from-whole.ensures.all ∙ c.if-whole.false) (omega (arith, c.tail_width-columns.ensures))).0 in
+    subst (λ n. SeesUpTo Shown c.args.text.now n c.fitting_front-front.result.walk.position) (sym (beside ∙ ap (λ n. c.args.width - n) (sym c.tail_width-columns.ensures))) c.fitting_front-front.ensures.fits
 
 pub returns-clause-tail : goal.returns-clause-tail
 returns-clause-tail c =
-    (width-tail (cell c.args.text.now) c.args.tail.now c.args.width (sym c.fitting_front_from-whole.ensures.all ∙ c.if-whole.false) (omega (arith, c.width-tail_width.ensures))).1
+    (width-tail (cell c.args.text.now) c.args.tail.now c.args.width (sym c.fitting_front_from-whole.ensures.all ∙ c.if-whole.false) (omega (arith, c.tail_width-columns.ensures))).1
 
 pub returns-clause-missing : goal.returns-clause-missing
 returns-clause-missing c =
@@ -65,8 +65,8 @@ returns-clause-missing c =
     let front = c.fitting_front-front.ensures in
     let at = c.fitting_front-front.result.walk in
     let left = c.fitting_front-front.result.left in
-    let is = width-tail (cell t) tail width (sym c.fitting_front_from-whole.ensures.all ∙ c.if-whole.false) (omega (arith, c.width-tail_width.ensures)) in
-    let sees = subst (λ n. SeesUpTo Shown t n at.position) (sym (is.0 ∙ ap (λ n. width - n) (sym c.width-tail_width.ensures))) front.fits in
-    let sum : columns (take (seen_len Shown t at.position) (seen_text Shown t)) + left + columns (plain tail) ≡ width = omega (arith, front.left, c.width-tail_width.ensures) in
+    let is = width-tail (cell t) tail width (sym c.fitting_front_from-whole.ensures.all ∙ c.if-whole.false) (omega (arith, c.tail_width-columns.ensures)) in
+    let sees = subst (λ n. SeesUpTo Shown t n at.position) (sym (is.0 ∙ ap (λ n. width - n) (sym c.tail_width-columns.ensures))) front.fits in
+    let sum : columns (take (seen_len Shown t at.position) (seen_text Shown t)) + left + columns (plain tail) ≡ width = omega (arith, front.left, c.tail_width-columns.ensures) in
     subst (λ o. IfSome o (IsLack (cell t) width tail)) (sym c.then_some.ensures)
     (known_if (IsLack (cell t) width tail) c.is_apart.result left (λ holds. lack-beside t c.utf8.text width tail at front.walk sees left tail sum is.1 (c.is_apart.ensures.bare holds) (c.is_apart.ensures.breaks holds)))

@@ -11,7 +11,7 @@ pub returns-clause-bytes : goal.returns-clause-bytes
 returns-clause-bytes g c =
     let t = c.args.text.now in
     let between = c.fitting_tail-tail.ensures in
-    let room : c.saturating_sub-room.result ≡ beside_tail c.args.to.now.width c.args.to.now.tail.now = omega (arith, c.saturating_sub-room.ensures, c.width.ensures, ap (λ u. columns (plain u)) between) in
+    let room : c.saturating_sub-room.result ≡ beside_tail c.args.to.now.width c.args.to.now.tail.now = omega (arith, c.saturating_sub-room.ensures, c.tail_width.ensures, ap (λ u. columns (plain u)) between) in
     let first = c.before_tail-first.result in
     let from : c.saturating_sub.result ≡ c.args.all - (c.saturating_sub-room.result - first) = c.saturating_sub.ensures in
     cut-written c.args.to.now.side t c.args.to.now.width c.args.to.now.tail.now between room c.before_tail-first.ensures.count c.requires
