@@ -1,5 +1,5 @@
 -- Texts that an iterator returns, one more at a time, and all of them.
-use Rattle.std.proofs.Common.{◌≡◌, ◌∙◌, ℕ, ◌+◌, ◌<◌, ◌^◌, Bool, List, [], ◌∷◌, ◌++◌, length, take, drop, map, All, Option, Result, Ok, Err, refl, sym, ap, ap₂, subst, arith, append-nil, length-append, IsTrue, IsOk, inl, inr}
+use Rattle.std.proofs.Common.{◌≡◌, ◌∙◌, ℕ, ◌+◌, ◌<◌, ◌^◌, Bool, List, [], ◌∷◌, ◌++◌, length, take, drop, map, All, Option, Result, Ok, Err, refl, sym, ap, ap₂, subst, arith, append-nil, length-append, IsTrue, IsOk}
 use Rattle.std.specs.Prelude.{flat_map}
 use Rattle.std.specs.Iterator.{Yields, Drains, HoldsAlong}
 use Rattle.std.specs.List.{list_all}

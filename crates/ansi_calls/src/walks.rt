@@ -1,28 +1,31 @@
 //! Calls that return the blocks and the parts of a text one by one. The walk is kept in the caller's
 //! memory.
-ghost use Rattle.std.specs.Prelude.{◌≡◌, not, ◌==◌, length, Some, IsUtf8};
+ghost use Rattle.std.specs.Prelude.{◌≡◌, not, ◌==◌, ◌≤◌, ◌++◌, length, Some, true, IsUtf8};
 ghost use Rattle.std.specs.Prelude.{IfOk, IfSome, string_bytes};
 ghost use Rattle.ansi_str.specs.Blocks.{sequences_before};
 ghost use Rattle.ansi_str.specs.States.{rendition_of, rendition_of_numbers};
 ghost use Rattle.ansi_str.specs.Written.{start, close};
 ghost use Rattle.ansi_split.specs.Walks.{IsPartWalk};
-ghost use Rattle.ansi_calls.specs.Answers.{no, Gives};
+ghost use Rattle.ansi_style.specs.declared.styles.TheConstants.{SHORT};
+ghost use Rattle.ansi_calls.specs.Answers.{no, Gives, IsWritten};
 ghost use Rattle.ansi_calls.specs.Walks.{IsOver, GivesNext, GivesNextPart};
 ghost use Rattle.ansi_calls.specs.Calls.{BeginsBlocks, BeginsParts, WritesStart, WritesClose};
 
-use crate::answers::{Answer, NO, NOT_UTF8, OK, OUT_OF_MEMORY, write, write_made};
+use crate::answers::{Answer, NO, NOT_UTF8, OK, OUT_OF_MEMORY, TOO_SMALL, write, write_made};
+use crate::lists::put;
 use ansi_blocks::runs::{Run, first_styled_run, sequences_before};
 use ansi_safe::utf8::from_utf8;
-use ansi_split::walks::{PartWalk, next_in, walk_in};
+use ansi_split::walks::{PartWalk, next_in, next_run_in, walk_in};
 use ansi_style::numbers::StyleNumbers;
 use ansi_style::state::Style;
 use ansi_style::styles;
+use ansi_style::styles::SHORT;
 use std::alloc::{AllocError, Allocator};
 use std::borrow::CowStr;
 use std::str::from_utf8_unchecked;
 
-/// Room for what sets or resets most styles.
-const ROOM: usize = 32;
+/// Room for what sets or resets a style and has more than `SHORT` bytes.
+const ROOM: usize = 64;
 
 /// The state of a walk over blocks: the text after the last block, and the style of that block.
 #[repr(C)]
@@ -117,7 +120,7 @@ pub fn blocks_next<'a, A: Allocator>(
     answer
 }
 
-/// The sequences that set a style.
+/// The sequences that set a style. Allocates only if they have more than `SHORT` bytes.
 #[tactic(auto, using(ansi_style::proofs::UnsetLemmas::unset_styles))]
 pub fn style_start<A: Allocator>(alloc: A, style: &StyleNumbers, buffer: &mut [u8]) -> Answer
     ensures { WritesStart (rendition_of_numbers style.now) result buffer.old buffer.new }
@@ -126,7 +129,10 @@ pub fn style_start<A: Allocator>(alloc: A, style: &StyleNumbers, buffer: &mut [u
     if !styles::has_any(&style) {
         return Answer::done(0);
     }
-    write_made(start_of(alloc, &style), buffer)
+    match styles::short_start(&style) {
+        Some(start) => write(start.as_str().as_bytes(), buffer),
+        None => write_made(start_of(alloc, &style), buffer),
+    }
 }
 
 /// The sequences that set a style, as a text of its own. `Err` means out of memory.
@@ -138,7 +144,7 @@ fn start_of<A: Allocator>(alloc: A, style: &Style) -> Result<String<A>, AllocErr
     Ok(start)
 }
 
-/// The sequences that reset a style.
+/// The sequences that reset a style. Allocates only if they have more than `SHORT` bytes.
 pub fn style_end<A: Allocator>(alloc: A, style: &StyleNumbers, buffer: &mut [u8]) -> Answer
     ensures { WritesClose (rendition_of_numbers style.now) result buffer.old buffer.new }
 {
@@ -146,7 +152,10 @@ pub fn style_end<A: Allocator>(alloc: A, style: &StyleNumbers, buffer: &mut [u8]
     if !styles::has_any(&style) {
         return Answer::done(0);
     }
-    write_made(close_of(alloc, &style), buffer)
+    match styles::short_close(&style) {
+        Some(end) => write(end.as_str().as_bytes(), buffer),
+        None => write_made(close_of(alloc, &style), buffer),
+    }
 }
 
 /// The sequences that reset a style, as a text of its own. `Err` means out of memory.
@@ -184,6 +193,38 @@ pub fn parts_next<'a, A: Allocator + Copy>(
     ensures next { GivesNextPart walk.old walk.new part.old part.new result buffer.old buffer.new }
 {
     let before = *walk;
+    let Some(run) = next_run_in(walk) else {
+        let answer = walked_part(alloc, walk, part, buffer);
+        if answer.status != OK {
+            *walk = before;
+        }
+        return answer;
+    };
+    let Some(style) = run.style else {
+        *part = NextPart {
+            text: run.text.as_bytes(),
+        };
+        return Answer::done(0);
+    };
+    let answer = write_run(alloc, run.text, &style, buffer);
+    if answer.status != OK {
+        *walk = before;
+    }
+    answer
+}
+
+/// Takes the next part off a walk, if that doesn't end in the stretch that is known to have no ESC.
+fn walked_part<'a, A: Allocator + Copy>(
+    alloc: A,
+    walk: &mut PartWalk<'a>,
+    part: &mut NextPart<'a>,
+    buffer: &mut [u8],
+) -> Answer
+    requires { IsPartWalk walk.old }
+    ensures walk { IsPartWalk walk.new }
+    ensures next { GivesNextPart walk.old walk.new part.old part.new result buffer.old buffer.new }
+{
+    let before = *walk;
     let answer = match next_in(alloc, walk) {
         None => Answer::failed(NO),
         Some(Ok(CowStr::Borrowed(text))) => {
@@ -199,4 +240,47 @@ pub fn parts_next<'a, A: Allocator + Copy>(
         *walk = before;
     }
     answer
+}
+
+/// Writes a text between the start and the close of a style. Allocates only if one of them has more
+/// than `SHORT` bytes.
+fn write_run<A: Allocator>(alloc: A, text: &str, style: &Style, buffer: &mut [u8]) -> Answer
+    ensures { Gives no true (Some (start (rendition_of style.now) ++ text.now
+        ++ close (rendition_of style.now))) result buffer.old buffer.new }
+{
+    let (Some(start), Some(close)) = (styles::short_start(style), styles::short_close(style)) else {
+        return write_made(styled(alloc, text, style), buffer);
+    };
+    write_between(start.as_str(), text, close.as_str(), buffer)
+}
+
+/// A text between the start and the close of a style. `Err` means out of memory.
+fn styled<A: Allocator>(alloc: A, text: &str, style: &Style) -> Result<String<A>, AllocError>
+    ensures { IfOk result (λ s. string_bytes s
+        ≡ start (rendition_of style.now) ++ text.now ++ close (rendition_of style.now)) }
+{
+    let mut out = styles::with_room(alloc, style, text.len(), style)?;
+    styles::write_start(style, &mut out)?;
+    out.push_str(text)?;
+    styles::write_close(style, &mut out)?;
+    Ok(out)
+}
+
+/// Writes a text between two short ones, if there is room for all three.
+fn write_between(start: &str, text: &str, close: &str, buffer: &mut [u8]) -> Answer
+    requires start { length start.now ≤ SHORT }
+    requires close { length close.now ≤ SHORT }
+    ensures { IsWritten (start.now ++ text.now ++ close.now) result buffer.old buffer.new }
+{
+    let len = start.len() + text.len() + close.len();
+    if len > buffer.len() {
+        return Answer {
+            status: TOO_SMALL,
+            len,
+        };
+    }
+    let place = put(start.as_bytes(), 0, buffer);
+    let place = put(text.as_bytes(), place, buffer);
+    put(close.as_bytes(), place, buffer);
+    Answer::done(len)
 }

@@ -188,11 +188,13 @@ impl<'t, A: Allocator> PushNext for AnsiWrap<'t, A> {
             self.spans.finish();
             return Some(Err(e));
         }
-        let pushed = self.spans.next(self.text.as_str())?.push_to(out);
-        if pushed.is_err() {
-            self.spans.finish();
+        match self.spans.next(self.text.as_str())?.push_to(out) {
+            Ok(()) => Some(Ok(())),
+            Err(e) => {
+                self.spans.finish();
+                Some(Err(e))
+            }
         }
-        Some(pushed)
     }
 }
 

@@ -1,14 +1,14 @@
 -- A part that ends in the plain run at the front.
-use Rattle.std.specs.Prelude.{IfSome}
+use Rattle.std.specs.Prelude.{IfSome, ◌⊎◌}
 use Rattle.std.proofs.Common.{Bor}
-use Rattle.ansi_split.proofs.Common.{◌≡◌, ℕ, ◌≤◌, List, [], ◌∷◌, length, take, drop, max, Bool, Option, Some, None, MatchOption, if◌then◌else◌, refl, sym, ◌∙◌, ap, ap₂, arith, take_all, IsTrue, IsFalse, IsCharBoundary, plain, has_escape, is_char_boundary, Rendition, IsStyle, has_any, IsCutAtMatch, first_match_from, parts_left, span_part, CarriedPart}
-use Rattle.ansi_split.specs.Spans.{IsBareFirst}
+use Rattle.ansi_split.proofs.Common.{◌≡◌, ◌==◌, ne_eqb, eqb-false, inl, inr, false, ℕ, ◌≤◌, List, [], ◌∷◌, length, take, drop, max, Bool, Option, Some, None, MatchOption, if◌then◌else◌, refl, sym, ◌∙◌, ap, ap₂, arith, take_all, IsTrue, IsFalse, IsCharBoundary, plain, has_escape, is_char_boundary, Rendition, IsStyle, has_any, IsCutAtMatch, first_match_from, parts_left, span_part, CarriedPart}
+use Rattle.ansi_split.specs.Spans.{IsBareFirst, IsRunFirst}
 use Rattle.ansi_split.specs.Cursors.{parts_at}
 use Rattle.ansi_split.specs.declared.split.cursors.Cursor.{Cursor}
 use Rattle.ansi_split.proofs.RestLemmas.{style-bare, no_escape-parts}
 use Rattle.ansi_split.proofs.SpanLemmas.{parts_left-first, parts_left-last, skip_in_front}
 use Rattle.ansi_split.proofs.SpanWalkLemmas.{boundary-bare}
-use Rattle.ansi_split.proofs.SplitLemmas.{bare-unstyled, span_part-drop}
+use Rattle.ansi_split.proofs.SplitLemmas.{bare-empty, bare-unstyled, bytes-styled, owned-styled, span_part-drop}
 use Rattle.ansi_split.proofs.PartLengthLemmas.{length-span_part}
 
 -- the bytes that are left out end with a character of the stretch
@@ -47,6 +47,17 @@ pub bare_first : (c : Rendition) (run : List ℕ) (old new : List CarriedPart) �
 bare_first c run old new style unset none first =
     let bare = bare-unstyled c run 0 none (omega arith) unset in
     (span_part c run 0, first, bare.bytes, bare.borrowed, length-span_part c run 0 style refl)
+
+-- the same as a run: it is a borrow if it is empty, or nothing is carried into it
+pub run_first-bare : (c : Rendition) (run : List ℕ) {old new : List CarriedPart} → IsFalse (has_escape run) → (0 ≡ length run) ⊎ IsFalse (has_any c) → old ≡ span_part c run 0 ∷ new → IsRunFirst old None run new
+run_first-bare c run none (inl empty) first = (let bare = bare-empty c run 0 none empty in (span_part c run 0, first, bare.borrowed, bare.bytes))
+run_first-bare c run none (inr unset) first = (let bare = bare-unstyled c run 0 none (omega arith) unset in (span_part c run 0, first, bare.borrowed, bare.bytes))
+
+-- and else it has the style around it
+pub run_first-styled : (c : Rendition) (run : List ℕ) {old new : List CarriedPart} → IsFalse (has_escape run) → (length run == 0) ≡ false → IsTrue (has_any c) → old ≡ span_part c run 0 ∷ new → IsRunFirst old (Some c) run new
+run_first-styled c run none some any first =
+    let filled : (0 == length run) ≡ false = ne_eqb 0 (length run) (λ empty. omega (arith, empty, eqb-false (length run) 0 some)) in
+    (span_part c run 0, first, owned-styled c run 0 none filled any, bytes-styled c run none filled any)
 
 pub bare_next : {old new old' new' : List CarriedPart} (c : Rendition) (r : Option (Bor (List ℕ))) → old ≡ old' → new ≡ new' → IsStyle c → IsFalse (has_any c) → IfSome r (λ x. IsFalse (has_escape x.now))
     → MatchOption r (new ≡ old) (λ x. old ≡ span_part c x.now 0 ∷ new) → MatchOption r (new' ≡ old') (λ x. IsBareFirst old' x.now new')

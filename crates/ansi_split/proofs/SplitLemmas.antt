@@ -1,4 +1,5 @@
 -- The parts that a split gives: those of the text, each by its index; and a part that is written or borrowed.
+use Rattle.ansi_style.specs.Written.{close}
 use Rattle.ansi_split.proofs.Common.{◌≡◌, Bool, unwrap_or, ℕ, zero, suc, ◌+◌, ◌-◌, ◌≤◌, take, or_parts, take-append-drop, length-drop, nat_tests, true, false, not, ◌&&◌, ◌||◌, ◌==◌, List, [], ◌∷◌, ◌++◌, length, map, drop, Option, Some, None, option_map, refl, sym, ◌∙◌, ap, ap₂, arith, IsTrue, IsFalse, if◌then◌else◌, slice_get, append-nil, eqb-true, eq-eqb, ne_eqb, cond_both, or_from, and_parts, and_from, and-false, or-true, none-some, same_Some, drop_all, list_any-append, range_with_len, list_all, escape, Piece, Text, ArePieces, pieces_of, Mark, plain, marks_of, marks, marks_up_to, has_escape, Rendition, plain_style, has_any, start, close_if_any, style_of, style_at, parts, end_before, carried, part, all_parts, part_from, source_len, is_part_borrowed, CarriedPart, split_part, split_parts, parts_from, parts_left, span_part, span_text, pieces_are, has_escape-bare, plain-bare, slice_range-past, mark_further_on, marks-bare, marks_of-text, marks_of-mark, marks_up_to-marks_past, interleaved-bare, start-unset, close_if_any-unset}
 use Rattle.std.proofs.lemmas.Bool.{true≢false}
 use Rattle.ansi_split.proofs.IntervalLemmas.{end_before_index, end_before_index-suc, end_before_index-none}
@@ -125,6 +126,11 @@ bare-unstyled c t skip none inside unset =
       borrowed = span_part-borrowed c t skip ∙ ap₂ (λ (ms : List Mark) b. length ms == 0 && (skip == length (plain t) || not b)) (marks-bare t none) unset
           ∙ or-true (skip == length (plain t));
     }
+
+-- If a style is carried into it, it is between the start and the close of that.
+pub bytes-styled : (c : Rendition) (t : List ℕ) → has_escape t ≡ false → (0 == length t) ≡ false → has_any c ≡ true → (span_part c t 0).bytes ≡ start c ++ t ++ close c
+bytes-styled c t none filled any =
+    bare_part c t 0 none ∙ ap (λ b. if b && true then [] else start c ++ t ++ close_if_any c) filled ∙ ap (λ b. start c ++ t ++ (if b then close c else [])) any
 
 -- The part of an index.
 

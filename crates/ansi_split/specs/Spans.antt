@@ -1,8 +1,8 @@
 -- The parts of a text that is read with a style already open, and after the match before.
-use Rattle.std.specs.Prelude.{◌≡◌, ℕ, ◌+◌, ◌≤◌, Bool, List, [], ◌∷◌, ◌++◌, length, map, zip, drop, take, Option, Some, None, IsTrue}
+use Rattle.std.specs.Prelude.{◌≡◌, ℕ, ◌+◌, ◌≤◌, Bool, List, [], ◌∷◌, ◌++◌, length, map, zip, drop, take, Option, Some, None, not, is_some, IsTrue}
 use Rattle.ansi_style.specs.declared.state.rendition.Rendition.{Rendition}
 use Rattle.ansi_items.specs.Plain.{Mark, plain, marks, marks_up_to, has_escape}
-use Rattle.ansi_style.specs.Written.{start, close_if_any, longest_start_and_close}
+use Rattle.ansi_style.specs.Written.{start, close, close_if_any, longest_start_and_close}
 use Rattle.ansi_style.specs.Reading.{style_after_from, style_within}
 use Rattle.ansi_slice.specs.Cut.{interleaved}
 use Rattle.ansi_search.specs.Positions.{is_char_boundary}
@@ -43,6 +43,15 @@ parts_left c t p skip from =
 -- the first of these parts is the text `bare`, a borrow, which is at most as long as its source, a start and a close; the others are left
 abbrev pub IsBareFirst : List CarriedPart → List ℕ → List CarriedPart → Type 0
 IsBareFirst old bare new = (p : CarriedPart) × (old ≡ p ∷ new) × (p.bytes ≡ bare) × IsTrue p.borrowed × (length p.bytes ≤ p.source_len + longest_start_and_close)
+
+-- a run as a part: itself, or between the start and the close of a style
+abbrev pub dressed_run : Option Rendition → List ℕ → List ℕ
+dressed_run None x = x
+dressed_run (Some c) x = start c ++ x ++ close c
+
+-- the first of these parts is the run x with this style around it, a borrow if there is none; the others are left
+abbrev pub IsRunFirst : List CarriedPart → Option Rendition → List ℕ → List CarriedPart → Type 0
+IsRunFirst old style x new = (p : CarriedPart) × (old ≡ p ∷ new) × (p.borrowed ≡ not (is_some style)) × (p.bytes ≡ dressed_run style x)
 
 -- all of t without its first `skip` plain bytes, with every mark, between the start of c and the close of the style then
 unfoldable pub span_text : Rendition → List ℕ → ℕ → List ℕ

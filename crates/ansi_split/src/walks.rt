@@ -1,10 +1,10 @@
 //! Splits that are paused, in memory that isn't Rattle's. They have a module of their own, since
 //! `ansi_str` passes `split` on.
 ghost use Rattle.std.specs.Prelude.{◌≡◌, ◌∷◌, IsFalse, IfSome};
-ghost use Rattle.std.specs.Option.{MatchOption};
+ghost use Rattle.std.specs.Option.{MatchOption, option_map};
 ghost use Rattle.ansi_items.specs.Plain.{has_escape};
-ghost use Rattle.ansi_style.specs.States.{rendition_of_numbers};
-ghost use Rattle.ansi_split.specs.Spans.{span_part, IsBareFirst};
+ghost use Rattle.ansi_style.specs.States.{rendition_of, rendition_of_numbers};
+ghost use Rattle.ansi_split.specs.Spans.{span_part, IsRunFirst};
 ghost use Rattle.ansi_split.specs.Splits.{split_parts, GivesPart};
 ghost use Rattle.ansi_split.specs.Walks.{parts_of_walk, IsPartWalk};
 
@@ -12,6 +12,7 @@ use crate::split::cursors::Cursor;
 use crate::split::rest::Rest;
 use crate::split::spans::{PartSpan, PartSpans};
 use ansi_style::numbers::StyleNumbers;
+use ansi_style::state::Style;
 use ansi_style::styles;
 use std::alloc::{AllocError, Allocator};
 use std::borrow::CowStr;
@@ -80,21 +81,14 @@ impl<'a> PartWalk<'a> {
         self.finished = at.finished;
         run
     }
+}
 
-    /// The next part, if it is a stretch of the known plain run and no style is carried into it.
-    /// After `None` the same parts are left.
-    #[inline(always)]
-    fn next_bare(&mut self) -> Option<&'a str>
-        requires { IsPartWalk self.old }
-        ensures walk { IsPartWalk self.new }
-        ensures next { MatchOption result (parts_of_walk self.new ≡ parts_of_walk self.old)
-            (λ bare. IsBareFirst (parts_of_walk self.old) bare.now (parts_of_walk self.new)) }
-    {
-        if styles::has_any(&self.carried.style()) {
-            return None;
-        }
-        self.next_run()
-    }
+/// A part that is a stretch of the text without an ESC, and the style that is written around it. If
+/// it is empty, or no style is carried into it, it stays as it is, and there is none. (Own.)
+#[derive(Clone, Copy)]
+pub struct PartRun<'a> {
+    pub text: &'a str,
+    pub style: Option<Style>,
 }
 
 /// A walk that has all parts left. (Own.)
@@ -103,6 +97,27 @@ pub fn walk_in<'a>(text: &'a str, pat: &'a str) -> PartWalk<'a>
     ensures parts { parts_of_walk result ≡ split_parts text.now pat.now }
 {
     PartSpans::new(text, pat).walk()
+}
+
+/// The next part of a walk, if it ends in the stretch of the text that is known to have no ESC. After
+/// `None` the same parts are left. Doesn't allocate. (Own.)
+#[inline(always)]
+pub fn next_run_in<'a>(walk: &mut PartWalk<'a>) -> Option<PartRun<'a>>
+    requires { IsPartWalk walk.old }
+    ensures walk { IsPartWalk walk.new }
+    ensures next { MatchOption result (parts_of_walk walk.new ≡ parts_of_walk walk.old)
+        (λ run. IsRunFirst (parts_of_walk walk.old) (option_map rendition_of run.style)
+        run.text.now (parts_of_walk walk.new)) }
+{
+    let text = walk.next_run()?;
+    let carried = walk.carried.style();
+    if text.is_empty() || !styles::has_any(&carried) {
+        return Some(PartRun { text, style: None });
+    }
+    Some(PartRun {
+        text,
+        style: Some(carried),
+    })
 }
 
 /// The next part of a walk, as [`split_in`] returns it. (Own.)
@@ -114,12 +129,6 @@ pub fn next_in<'a, A: Allocator + Copy>(
     ensures walk { IsPartWalk walk.new }
     ensures next { GivesPart (parts_of_walk walk.old) result (parts_of_walk walk.new) }
 {
-    if walk.finished {
-        return None;
-    }
-    if let Some(bare) = walk.next_bare() {
-        return Some(Ok(CowStr::Borrowed(bare)));
-    }
     if let Some(run) = walk.next_run() {
         return match PartSpan::of_run(run, walk.carried.style()).write(alloc) {
             Ok(part) => Some(Ok(part)),

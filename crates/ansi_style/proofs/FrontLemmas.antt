@@ -5,7 +5,7 @@ use Rattle.std.proofs.lemmas.Str.{IsCharBoundary-from_take, IsUtf8-string_bytes}
 use Rattle.std.specs.Str.{IsUtf8, IsCharBoundary}
 use Rattle.std.specs.Prelude.{Bool, true, false, String, string_bytes, string_len}
 use Rattle.ansi_style.specs.Writing.{BeginsWith}
-use Rattle.ansi_style.proofs.Common.{◌≡◌, ◌≤◌, ◌++◌, List, ℕ, refl, sym, ap, subst, ◌∙◌, arith, rules, length, take, if◌then◌else◌, take_all, min}
+use Rattle.ansi_style.proofs.Common.{◌≡◌, ◌≤◌, ◌++◌, List, ℕ, sym, ap, subst, ◌∙◌, arith, rules, length, take, if◌then◌else◌}
 
 front_is_short : (text front : List ℕ) → BeginsWith text front → length front ≤ length text
 front_is_short text front begins = omega (arith, ap length begins, length-take (length front) text)

@@ -10,10 +10,10 @@ use Rattle.std.proofs.lemmas.List.FromFn.{get_or-map-range_with_len}
 pub same_rendition :
     (n : StyleNumbers) (s : Style)
     → n.attributes ≡ bit_and s.attributes.0 16777215
-    → color_of_numbers n.foreground ≡ s.foreground
-    → color_of_numbers n.background ≡ s.background
-    → color_of_numbers n.underline_color ≡ s.underline_color
-    → font_of_numbers n.font ≡ s.font
+    → color_of_numbers n.foreground ≡ color_of_numbers s.foreground
+    → color_of_numbers n.background ≡ color_of_numbers s.background
+    → color_of_numbers n.underline_color ≡ color_of_numbers s.underline_color
+    → font_of_numbers n.font ≡ font_of_numbers s.font
     → rendition_of_numbers n ≡ rendition_of s
 unfolding rendition_of
 same_rendition n s attributes foreground background underline_color font =

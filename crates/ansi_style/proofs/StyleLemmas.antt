@@ -1,5 +1,8 @@
 -- Sequences make styles of styles: each color and font that they select is in its range.
-use Rattle.ansi_style.proofs.Common.{◌≡◌, ℕ, zero, suc, true, List, [], ◌∷◌, length, Option, Some, None, refl, IsTrue, IfSome, nat_lt, arith, map, rules, and_from, or_left, or_right, option_map_or, ForSome, is_in_range, AnsiColor, Style, rendition_of, sgr_parameters, Mark, marks, marks_up_to, Rendition, is_foreground, is_background, is_extended_color, IsStyle, plain_style, Effect, Changes, ReadsColor, effect_of, color_number, color_by_parts, color_by_number, read_color, perform, steps, step, apply, apply_parameters, fields_of, apply_all, style_at, style_after, style_after_from}
+use Rattle.ansi_style.proofs.Common.{◌≡◌, ◌∙◌, sym, ap, inl, inr, Bool, if◌then◌else◌, cases_Bool, ℕ, zero, suc, true, List, [], ◌∷◌, length, Option, Some, None, refl, IsTrue, IfSome, nat_lt, arith, map, rules, and_from, or_left, or_right, option_map_or, ForSome, is_in_range, AnsiColor, Style, rendition_of, sgr_parameters, Mark, marks, marks_up_to, Rendition, is_foreground, is_background, is_extended_color, IsStyle, plain_style, Effect, Changes, ReadsColor, effect_of, color_number, color_by_parts, color_by_number, read_color, perform, steps, step, apply, apply_parameters, fields_of, apply_all, style_at, style_after, style_after_from}
+use Rattle.ansi_style.specs.Numbers.{color_of_numbers, font_of_numbers}
+use Rattle.ansi_style.specs.Sets.{unless_same}
+use Rattle.std.specs.Option.{option_or}
 use Rattle.ansi_style.proofs.SgrLemmas.{effect_holds}
 
 -- the ranges, field by field
@@ -91,12 +94,26 @@ IsStyle-style_after t = IsStyle-style_after_from plain_style t IsStyle-plain_sty
 pub IsStyle-rendition_of : (s : Style) → IsStyle (rendition_of s)
 unfolding rendition_of
 IsStyle-rendition_of s = record {
-  foreground = if_some s.foreground s.foreground_in_range;
-  background = if_some s.background s.background_in_range;
-  underline_color = if_some s.underline_color s.underline_color_in_range;
-  font = if_some s.font s.font_in_range;
+  foreground = if_some (color_of_numbers s.foreground) s.foreground_in_range;
+  background = if_some (color_of_numbers s.background) s.background_in_range;
+  underline_color = if_some (color_of_numbers s.underline_color) s.underline_color_in_range;
+  font = if_some (font_of_numbers s.font) s.font_in_range;
 }
   where
     if_some : {X : Type 0} {P : X → Type 0} (o : Option X) → ForSome o P → IfSome o P
     if_some None for = tt
     if_some (Some x) for = for x refl
+
+-- What is set in either of two styles, or in one alone, is in its range.
+
+pub or_in_range : {X : Type 0} {P : X → Type 0} {q : Option X} (o p : Option X) → q ≡ option_or o p → ForSome o P → ForSome p P → ForSome q P
+or_in_range None p is first second x some = second x (sym is ∙ some)
+or_in_range (Some y) p is first second x some = first x (sym is ∙ some)
+
+pub unless_same_in_range : {X : Type 0} {P : X → Type 0} {q : Option X} (same : X → X → Bool) (o p : Option X) → q ≡ unless_same same o p → ForSome o P → ForSome q P
+unless_same_in_range same None p is first x some = first x (sym is ∙ some)
+unless_same_in_range same (Some y) None is first x some = first x (sym is ∙ some)
+unless_same_in_range same (Some y) (Some z) is first x some = elim (cases_Bool (same y z)) [
+  | inl same_there ↦ absurd (let none = sym (is ∙ ap (λ b. if b then None else Some y) same_there) ∙ some in cc)
+  | inr other ↦ first x (sym (is ∙ ap (λ b. if b then None else Some y) other) ∙ some)
+]

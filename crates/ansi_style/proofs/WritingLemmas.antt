@@ -8,7 +8,7 @@ use Rattle.std.specs.declared.fmt.Formatter.{Formatter}
 use Rattle.ansi_style.specs.declared.styles.ByteCount.{ByteCount}
 use Rattle.std.proofs.lemmas.Grind.{put_two}
 use Rattle.ansi_style.specs.Writing.{WroteOnOk, color_sequence, color_sequence_if_set}
-use Rattle.ansi_style.proofs.Common.{◌≡◌, ◌∙◌, ℕ, List, ◌++◌, Option, Some, None, codes, refl, sym, ap, ap₂, subst, [], ◌∷◌, HasWritten, IsPlainFormatter, arith, length, length-append, ◌+◌, append_assoc, append-nil, decimal, flat_map-append, AnsiColor, Bit4, Bit8, Bit24, color_code, color_codes, written, written_all, true≢false}
+use Rattle.ansi_style.proofs.Common.{◌≡◌, ◌∙◌, ℕ, List, ◌++◌, Option, Some, None, codes, refl, sym, ap, ap₂, subst, [], ◌∷◌, HasWritten, IsPlainFormatter, arith, length, length-append, ◌+◌, append_assoc, append-nil, flat_map-append, AnsiColor, Bit4, Bit8, Bit24, color_code, color_codes, written, written_all, true≢false}
 
 module _ {W : Type 0} (took : W → List ℕ → W → Type 0) where
   pub wrote_nothing : (w : W) → WritesInCalls took w [] w

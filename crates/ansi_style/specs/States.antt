@@ -46,10 +46,10 @@ with_attributes is_set s = record s {
 -- the rendition of a style of the code
 unfoldable pub rendition_of : Style → Rendition
 rendition_of s = with_attributes (has s.attributes.0) (record plain_style {
-  foreground = s.foreground;
-  background = s.background;
-  underline_color = s.underline_color;
-  font = s.font;
+  foreground = color_of_numbers s.foreground;
+  background = color_of_numbers s.background;
+  underline_color = color_of_numbers s.underline_color;
+  font = font_of_numbers s.font;
 })
 
 -- the rendition that the numbers encode, each attribute by its bit

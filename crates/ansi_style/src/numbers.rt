@@ -1,17 +1,20 @@
-//! A style as numbers, for memory that Rattle doesn't manage.
-ghost use Rattle.std.specs.Prelude.{◌≡◌, IsTrue};
-ghost use Rattle.std.specs.Option.{ForSome};
+//! Colors, fonts and styles as numbers. A style keeps its colors and its font so, and memory that
+//! Rattle doesn't manage keeps a style so.
+ghost use Rattle.std.specs.Prelude.{◌≡◌, IsTrue, Some, is_some};
+ghost use Rattle.std.specs.Option.{ForSome, option_or};
 ghost use Rattle.std.specs.Int.{is_in_range};
 ghost use Rattle.ansi_style.specs.Rendition.{is_foreground, is_background, is_extended_color};
 ghost use Rattle.ansi_style.specs.Numbers.{color_of_numbers, numbers_of_color};
 ghost use Rattle.ansi_style.specs.Numbers.{font_of_numbers, numbers_of_font};
+ghost use Rattle.ansi_items.specs.declared.ansitok.AnsiColor.TheVariants.{Bit4};
 
 use crate::state::Style;
 use crate::state::attributes::Attributes;
 use ansi_items::ansitok::AnsiColor;
 use bitflags::Flags;
+use std::fmt;
 
-/// An optional color as numbers.
+/// An optional color as numbers: its kind, and the numbers of that kind.
 #[repr(C)]
 #[derive(Clone, Copy)]
 pub struct ColorNumbers {
@@ -22,7 +25,8 @@ pub struct ColorNumbers {
 }
 
 impl ColorNumbers {
-    fn of(color: Option<AnsiColor>) -> ColorNumbers
+    #[inline(always)]
+    pub(crate) fn of(color: Option<AnsiColor>) -> ColorNumbers
         ensures color { color_of_numbers result ≡ color }
         ensures exact { result ≡ numbers_of_color color }
     {
@@ -40,7 +44,8 @@ impl ColorNumbers {
         }
     }
 
-    fn color(self) -> Option<AnsiColor>
+    #[inline(always)]
+    pub(crate) fn color(self) -> Option<AnsiColor>
         ensures { result ≡ color_of_numbers self }
     {
         match self.kind {
@@ -54,6 +59,47 @@ impl ColorNumbers {
             }),
         }
     }
+
+    /// The color that a code selects, one of the sixteen.
+    #[inline(always)]
+    pub(crate) fn of_code(code: u8) -> ColorNumbers
+        ensures { color_of_numbers result ≡ Some (Bit4 code) }
+    {
+        ColorNumbers::of(Some(AnsiColor::Bit4(code)))
+    }
+
+    /// Whether there is a color.
+    #[inline(always)]
+    pub(crate) fn is_some(self) -> bool
+        ensures { result ≡ is_some (color_of_numbers self) }
+    {
+        self.kind != 0
+    }
+
+    /// This color, or the other if there is none.
+    #[inline(always)]
+    pub(crate) fn or(self, other: ColorNumbers) -> ColorNumbers
+        ensures { color_of_numbers result
+            ≡ option_or (color_of_numbers self) (color_of_numbers other) }
+    {
+        if self.is_some() { self } else { other }
+    }
+
+    /// The same color, with 0 in each byte that its kind doesn't use.
+    #[inline(always)]
+    fn exact(self) -> ColorNumbers
+        ensures color { color_of_numbers result ≡ color_of_numbers self }
+        ensures exact { result ≡ numbers_of_color (color_of_numbers self) }
+    {
+        ColorNumbers::of(self.color())
+    }
+}
+
+impl fmt::Debug for ColorNumbers {
+    /// Prints the color.
+    fn fmt<W: fmt::Write>(&self, f: &mut fmt::Formatter<W>) -> fmt::Result {
+        self.color().fmt(f)
+    }
 }
 
 /// An optional font as numbers.
@@ -65,7 +111,8 @@ pub struct FontNumbers {
 }
 
 impl FontNumbers {
-    fn of(font: Option<u8>) -> FontNumbers
+    #[inline(always)]
+    pub(crate) fn of(font: Option<u8>) -> FontNumbers
         ensures font { font_of_numbers result ≡ font }
         ensures exact { result ≡ numbers_of_font font }
     {
@@ -81,10 +128,44 @@ impl FontNumbers {
         }
     }
 
-    fn font(self) -> Option<u8>
+    #[inline(always)]
+    pub(crate) fn font(self) -> Option<u8>
         ensures { result ≡ font_of_numbers self }
     {
         if self.is_set { Some(self.number) } else { None }
+    }
+
+    /// Whether there is a font.
+    #[inline(always)]
+    pub(crate) fn is_some(self) -> bool
+        ensures { result ≡ is_some (font_of_numbers self) }
+    {
+        self.is_set
+    }
+
+    /// This font, or the other if there is none.
+    #[inline(always)]
+    pub(crate) fn or(self, other: FontNumbers) -> FontNumbers
+        ensures { font_of_numbers result
+            ≡ option_or (font_of_numbers self) (font_of_numbers other) }
+    {
+        if self.is_some() { self } else { other }
+    }
+
+    /// The same font, with 0 in a byte that isn't used.
+    #[inline(always)]
+    fn exact(self) -> FontNumbers
+        ensures font { font_of_numbers result ≡ font_of_numbers self }
+        ensures exact { result ≡ numbers_of_font (font_of_numbers self) }
+    {
+        FontNumbers::of(self.font())
+    }
+}
+
+impl fmt::Debug for FontNumbers {
+    /// Prints the font.
+    fn fmt<W: fmt::Write>(&self, f: &mut fmt::Formatter<W>) -> fmt::Result {
+        self.font().fmt(f)
     }
 }
 
@@ -114,6 +195,7 @@ impl StyleNumbers {
     const ATTRIBUTES: u32 = 0xff_ffff;
 
     /// The numbers of a style.
+    #[inline]
     #[tactic(auto, unfolding(crate::specs::States::rendition_of))]
     pub fn of(style: &Style) -> StyleNumbers
         ensures rendition { rendition_of_numbers result ≡ rendition_of style.now }
@@ -121,24 +203,25 @@ impl StyleNumbers {
     {
         StyleNumbers {
             attributes: style.attributes.bits() & Self::ATTRIBUTES,
-            foreground: ColorNumbers::of(style.foreground),
-            background: ColorNumbers::of(style.background),
-            underline_color: ColorNumbers::of(style.underline_color),
-            font: FontNumbers::of(style.font),
+            foreground: style.foreground.exact(),
+            background: style.background.exact(),
+            underline_color: style.underline_color.exact(),
+            font: style.font.exact(),
         }
     }
 
     /// The style of these numbers.
+    #[inline(always)]
     #[tactic(auto, unfolding(crate::specs::States::rendition_of))]
     pub fn style(&self) -> Style
         ensures { rendition_of result ≡ rendition_of_numbers self.now }
     {
         Style {
             attributes: Attributes::from_bits_retain(self.attributes),
-            foreground: self.foreground.color(),
-            background: self.background.color(),
-            underline_color: self.underline_color.color(),
-            font: self.font.font(),
+            foreground: self.foreground,
+            background: self.background,
+            underline_color: self.underline_color,
+            font: self.font,
         }
     }
 }

@@ -11,12 +11,13 @@ ghost use Rattle.std.specs.Prelude.{IsTrue};
 ghost use Rattle.std.specs.Option.{ForSome};
 ghost use Rattle.std.specs.Int.{is_in_range};
 ghost use Rattle.ansi_style.specs.Rendition.{is_foreground, is_background, is_extended_color};
+ghost use Rattle.ansi_style.specs.Numbers.{color_of_numbers, font_of_numbers};
 
+use crate::numbers::{ColorNumbers, FontNumbers};
 use crate::state::attributes::Attributes;
 use crate::state::fields::{Field, Fields};
 pub use crate::state::rendition::Rendition;
 pub use crate::state::written::{AnsiSequenceEnd, AnsiSequenceStart};
-use ansi_items::ansitok::AnsiColor;
 use bitflags::Flags;
 
 /// A style: what the SGRs before a character of a text have selected (ECMA-48, section 8.3.117).
@@ -31,17 +32,23 @@ use bitflags::Flags;
 ///
 /// Its colors and its font are always ones that SGR codes can select, as the ghost fields say.
 /// Contracts see it as a `Rendition`, by `rendition_of`.
+///
+/// It is laid out as `StyleNumbers`.
+#[repr(C)]
 #[derive(Debug, Clone, Copy)]
 pub struct Style {
     pub(crate) attributes: Attributes,
-    pub(crate) foreground: Option<AnsiColor>,
-    pub(crate) background: Option<AnsiColor>,
-    pub(crate) underline_color: Option<AnsiColor>,
-    pub(crate) font: Option<u8>,
-    ghost foreground_in_range: { ForSome foreground (λ c. IsTrue (is_foreground c)) },
-    ghost background_in_range: { ForSome background (λ c. IsTrue (is_background c)) },
-    ghost underline_color_in_range: { ForSome underline_color (λ c. IsTrue (is_extended_color c)) },
-    ghost font_in_range: { ForSome font (λ n. IsTrue (is_in_range 11 19 n)) },
+    pub(crate) foreground: ColorNumbers,
+    pub(crate) background: ColorNumbers,
+    pub(crate) underline_color: ColorNumbers,
+    pub(crate) font: FontNumbers,
+    ghost foreground_in_range: { ForSome (color_of_numbers foreground) (λ c.
+        IsTrue (is_foreground c)) },
+    ghost background_in_range: { ForSome (color_of_numbers background) (λ c.
+        IsTrue (is_background c)) },
+    ghost underline_color_in_range: { ForSome (color_of_numbers underline_color) (λ c.
+        IsTrue (is_extended_color c)) },
+    ghost font_in_range: { ForSome (font_of_numbers font) (λ n. IsTrue (is_in_range 11 19 n)) },
 }
 
 impl Style {
@@ -91,9 +98,9 @@ impl Style {
         ensures { result ≡ rendition_of self.now }
     {
         Rendition {
-            foreground: self.foreground,
-            background: self.background,
-            underline_color: self.underline_color,
+            foreground: self.foreground.color(),
+            background: self.background.color(),
+            underline_color: self.underline_color.color(),
             bold: self.attributes.contains(Attributes::BOLD),
             faint: self.attributes.contains(Attributes::FAINT),
             italic: self.attributes.contains(Attributes::ITALIC),
@@ -107,7 +114,7 @@ impl Style {
             reset: self.attributes.contains(Attributes::RESET),
             framed: self.attributes.contains(Attributes::FRAMED),
             encircled: self.attributes.contains(Attributes::ENCIRCLED),
-            font: self.font,
+            font: self.font.font(),
             fraktur: self.attributes.contains(Attributes::FRAKTUR),
             proportional_spacing: self.attributes.contains(Attributes::PROPORTIONAL_SPACING),
             overlined: self.attributes.contains(Attributes::OVERLINED),

@@ -142,7 +142,7 @@ impl Style {
     pub fn foreground(&self) -> Option<Color>
         ensures { result ≡ option_map color_of (rendition_of self.now).foreground }
     {
-        Some(Color::from(self.foreground?))
+        Some(Color::from(self.foreground.color()?))
     }
 
     /// The background color by name, or `None` if none is set. (The Rust crate.)
@@ -154,6 +154,6 @@ impl Style {
     pub fn background(&self) -> Option<Color>
         ensures { result ≡ option_map color_of (rendition_of self.now).background }
     {
-        Some(Color::from(self.background?))
+        Some(Color::from(self.background.color()?))
     }
 }

@@ -1,20 +1,22 @@
 //! What the crates above do with a style. These are free functions, so that `Style` has only the
 //! public methods that callers of `ansi_str` need.
-ghost use Rattle.std.specs.Prelude.{◌≡◌, ◌||◌, ◌+◌, ◌++◌, [], length, IsTrue, IfOk, OnOk};
+ghost use Rattle.std.specs.Prelude.{◌≡◌, ◌||◌, ◌+◌, ◌++◌, [], length, IsTrue, IfSome, IfOk, OnOk};
 ghost use Rattle.std.specs.Prelude.{IsOk, OnErr, ⊤, nat_eq, take, string_bytes, string_capacity};
 ghost use Rattle.std.specs.Str.{IsCharBoundary};
 ghost use Rattle.ansi_items.specs.Sequences.{is_sgr};
 ghost use Rattle.ansi_style.specs.Rendition.{plain_style, has_known, has_any};
 ghost use Rattle.ansi_style.specs.Sgr.{apply, apply_parameters};
 ghost use Rattle.ansi_style.specs.Written.{start, close, close_if_any};
+ghost use Rattle.ansi_style.specs.Numbers.{color_of_numbers, font_of_numbers};
 ghost use Rattle.ansi_style.specs.States.{rendition_of};
 ghost use Rattle.ansi_style.specs.Sets.{union, difference, unless_same, is_same_color};
 
+use crate::numbers::{ColorNumbers, FontNumbers};
 use crate::state::attributes::Attributes;
 use crate::state::fields::{Fields, lone_code, parameters};
 use crate::state::sink::Sink;
 use crate::state::{Style, written};
-use ansi_items::ansitok::AnsiColor;
+use arrayvec::ArrayString;
 use bitflags::Flags;
 use std::alloc::{AllocError, Allocator};
 use std::fmt;
@@ -26,10 +28,10 @@ pub fn plain_style() -> Style
 {
     Style {
         attributes: Attributes::empty(),
-        foreground: None,
-        background: None,
-        underline_color: None,
-        font: None,
+        foreground: ColorNumbers::of(None),
+        background: ColorNumbers::of(None),
+        underline_color: ColorNumbers::of(None),
+        font: FontNumbers::of(None),
     }
 }
 
@@ -108,18 +110,22 @@ pub fn difference(style: &Style, other: &Style) -> Style
     }
 }
 
-/// The color, or `None` if the other is the same.
-fn color_unless_same(color: Option<AnsiColor>, other: Option<AnsiColor>) -> Option<AnsiColor>
-    ensures { result ≡ unless_same is_same_color color other }
+/// The color, or none if the other is the same.
+fn color_unless_same(color: ColorNumbers, other: ColorNumbers) -> ColorNumbers
+    ensures { color_of_numbers result
+        ≡ unless_same is_same_color (color_of_numbers color) (color_of_numbers other) }
 {
-    if color == other { None } else { color }
+    let (color, other) = (color.color(), other.color());
+    ColorNumbers::of(if color == other { None } else { color })
 }
 
-/// The font, or `None` if the other is the same.
-fn font_unless_same(font: Option<u8>, other: Option<u8>) -> Option<u8>
-    ensures { result ≡ unless_same nat_eq font other }
+/// The font, or none if the other is the same.
+fn font_unless_same(font: FontNumbers, other: FontNumbers) -> FontNumbers
+    ensures { font_of_numbers result
+        ≡ unless_same nat_eq (font_of_numbers font) (font_of_numbers other) }
 {
-    if font == other { None } else { font }
+    let (font, other) = (font.font(), other.font());
+    FontNumbers::of(if font == other { None } else { font })
 }
 
 /// Whether the style has something to reset: a known attribute, a color or a font is set, or
@@ -159,7 +165,7 @@ pub fn write_start<A: Allocator>(style: &Style, out: &mut String<A>) -> Result<(
 }
 
 /// Appends the close of the style. `Err` means out of memory, and then nothing is appended.
-#[tactic(auto, using(crate::proofs::UnsetLemmas::unset_styles), unfolding(crate::specs::States::rendition_of))]
+#[tactic(auto, using(crate::proofs::UnsetLemmas::unset_styles))]
 pub fn write_close<A: Allocator>(style: &Style, out: &mut String<A>) -> Result<(), AllocError>
     ensures bytes { OnOk result
         (string_bytes out.new ≡ string_bytes out.old ++ close (rendition_of style.now)) }
@@ -171,6 +177,33 @@ pub fn write_close<A: Allocator>(style: &Style, out: &mut String<A>) -> Result<(
     let len = out.len();
     let written = written::write_close(out, style);
     keep_if_written(out, len, written)
+}
+
+/// The most bytes of a start or a close that is made without allocating. Most have fewer.
+pub const SHORT: usize = 32;
+
+/// The start of the style, if it has at most `SHORT` bytes. `None` says nothing. Doesn't allocate.
+/// (Own.)
+pub fn short_start(style: &Style) -> Option<ArrayString<SHORT>>
+    ensures { IfSome result (λ s. s.bytes ≡ start (rendition_of style.now)) }
+{
+    let mut start = ArrayString::new();
+    match written::write_start(&mut start, style) {
+        Ok(()) => Some(start),
+        Err(_) => None,
+    }
+}
+
+/// The close of the style, if it has at most `SHORT` bytes. `None` says nothing. Doesn't allocate.
+/// (Own.)
+pub fn short_close(style: &Style) -> Option<ArrayString<SHORT>>
+    ensures { IfSome result (λ s. s.bytes ≡ close (rendition_of style.now)) }
+{
+    let mut close = ArrayString::new();
+    match written::write_close(&mut close, style) {
+        Ok(()) => Some(close),
+        Err(_) => None,
+    }
 }
 
 /// Takes back what was written after the first `len` bytes, if not all was. `Err` means that.
@@ -248,7 +281,7 @@ impl ByteCount {
     }
 
     /// Adds the length of the close of a style.
-    #[tactic(auto, using(crate::proofs::UnsetLemmas::unset_styles), unfolding(crate::specs::States::rendition_of))]
+    #[tactic(auto, using(crate::proofs::UnsetLemmas::unset_styles))]
     #[inline(always)]
     fn add_close(&mut self, style: &Style) -> Result<(), AllocError>
         ensures { OnOk result

@@ -3,6 +3,7 @@ ghost use Rattle.std.specs.Prelude.{◌≡◌, ◌++◌, List, ℕ, ⊤, OnOk, s
 ghost use Rattle.std.specs.Fmt.{HasWritten, IsPlainFormatter};
 ghost use Rattle.ansi_style.specs.Writing.{Keeps, BeginsWith};
 
+use arrayvec::ArrayString;
 use std::alloc::Allocator;
 use std::fmt;
 
@@ -47,5 +48,18 @@ impl<A: Allocator> Sink for String<A> {
     #[inline(always)]
     fn write(&mut self, piece: &str) -> fmt::Result {
         self.push_str(piece).or(Err(fmt::Error))
+    }
+}
+
+impl<const N: usize> Sink for ArrayString<N> {
+    ghost took = { λ s bytes t. t.bytes ≡ s.bytes ++ bytes };
+
+    ghost begins = { λ _ _. ⊤ };
+
+    const IN_PIECES: bool = false;
+
+    #[inline(always)]
+    fn write(&mut self, piece: &str) -> fmt::Result {
+        self.try_push_str(piece).or(Err(fmt::Error))
     }
 }

@@ -5,6 +5,7 @@ ghost use Rattle.ansi_style.specs.Sgr.{effect_of_code, perform, read_color, colo
 ghost use Rattle.ansi_style.specs.Sgr.{color_by_number};
 ghost use Rattle.ansi_style.specs.States.{rendition_of};
 
+use crate::numbers::{ColorNumbers, FontNumbers};
 use crate::state::Style;
 use crate::state::attributes::Attributes;
 use crate::state::fields::Fields;
@@ -33,8 +34,8 @@ impl Style {
             7 => self.set(Attributes::INVERSE),
             8 => self.set(Attributes::HIDE),
             9 => self.set(Attributes::CROSSED_OUT),
-            10 => self.font = None,
-            11..=19 => self.font = Some(code),
+            10 => self.font = FontNumbers::of(None),
+            11..=19 => self.font = FontNumbers::of(Some(code)),
             20 => self.set(Attributes::FRAKTUR),
             21 => self.set(Attributes::DOUBLE_UNDERLINE),
             22 => self.clear(Attributes::INTENSITY),
@@ -45,18 +46,18 @@ impl Style {
             27 => self.clear(Attributes::INVERSE),
             28 => self.clear(Attributes::HIDE),
             29 => self.clear(Attributes::CROSSED_OUT),
-            30..=37 | 90..=97 => self.foreground = Some(AnsiColor::Bit4(code)),
+            30..=37 | 90..=97 => self.foreground = ColorNumbers::of_code(code),
             38 | 48 | 58 => self.set_color(code, fields),
-            39 => self.foreground = None,
-            40..=47 | 100..=107 => self.background = Some(AnsiColor::Bit4(code)),
-            49 => self.background = None,
+            39 => self.foreground = ColorNumbers::of(None),
+            40..=47 | 100..=107 => self.background = ColorNumbers::of_code(code),
+            49 => self.background = ColorNumbers::of(None),
             50 => self.clear(Attributes::PROPORTIONAL_SPACING),
             51 => self.set(Attributes::FRAMED),
             52 => self.set(Attributes::ENCIRCLED),
             53 => self.set(Attributes::OVERLINED),
             54 => self.clear(Attributes::FRAMED_OR_ENCIRCLED),
             55 => self.clear(Attributes::OVERLINED),
-            59 => self.underline_color = None,
+            59 => self.underline_color = ColorNumbers::of(None),
             60 => self.set(Attributes::IDEOGRAM_UNDERLINE),
             61 => self.set(Attributes::IDEOGRAM_DOUBLE_UNDERLINE),
             62 => self.set(Attributes::IDEOGRAM_OVERLINE),
@@ -80,10 +81,11 @@ impl Style {
             ≡ perform (effect_of_code code) (rendition_of self.old) fields.old }
     {
         if let Some(color) = read_color(fields) {
+            let color = ColorNumbers::of(Some(color));
             match code {
-                38 => self.foreground = Some(color),
-                48 => self.background = Some(color),
-                _ => self.underline_color = Some(color),
+                38 => self.foreground = color,
+                48 => self.background = color,
+                _ => self.underline_color = color,
             }
         }
     }

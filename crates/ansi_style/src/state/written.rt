@@ -159,7 +159,7 @@ pub(crate) fn write_start<W: Sink>(out: &mut W, style: &Style) -> fmt::Result
         START_INTENSITY,
     )?;
     write_rows(out, set.intersection(Attributes::LETTERS), START_LETTERS)?;
-    write_font(out, style.font)?;
+    write_font(out, style.font.font())?;
     write_rows(out, set.intersection(Attributes::SHAPES), START_SHAPES)?;
     write_colors(out, style)?;
     write_rows(out, set.intersection(Attributes::FRAMES), START_FRAMES)
@@ -223,9 +223,9 @@ fn write_colors<W: Sink>(out: &mut W, style: &Style) -> fmt::Result
         ++ color_codes (codes "58") (rendition_of style.now).underline_color)) out.new }
     ensures kept { Keeps W.begins out.old out.new }
 {
-    write_color(out, b'3', style.foreground)?;
-    write_color(out, b'4', style.background)?;
-    write_color(out, b'5', style.underline_color)
+    write_color(out, b'3', style.foreground.color())?;
+    write_color(out, b'4', style.background.color())?;
+    write_color(out, b'5', style.underline_color.color())
 }
 
 /// Writes the code of a font, if one is set.

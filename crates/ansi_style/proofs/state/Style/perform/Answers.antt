@@ -10,11 +10,11 @@ returns-in-23 c = search rules
 
 pub returns-in-30-to-37 : goal.returns-in-30-to-37
 unfolding rendition_of
-returns-in-30-to-37 c = rw (effect_of_code-foreground c.args.code (elim c.in-30-to-37-1.branch [ then-code-lt38 w ↦ grind (arith, nat_tests) | else-code-lt38+else-code-lt48+else-code-lt90+then-code-lt98 w ↦ grind (arith, nat_tests) ]))
+returns-in-30-to-37 c = rw (effect_of_code-foreground c.args.code (elim c.in-30-to-37-1.branch [ then-code-lt38 w ↦ grind (arith, nat_tests) | else-code-lt38+else-code-lt48+else-code-lt90+then-code-lt98 w ↦ grind (arith, nat_tests) ]), c.of_code-self-in-30-to-37.ensures)
 
 pub returns-in-40-to-47 : goal.returns-in-40-to-47
 unfolding rendition_of
-returns-in-40-to-47 c = rw (effect_of_code-background c.args.code (elim c.in-40-to-47-1.branch [ then-code-lt48 w ↦ grind (arith, nat_tests) | else-code-lt48+else-code-lt90+else-code-lt98+else-code-lt100+then-code-lt108 w ↦ grind (arith, nat_tests) ]))
+returns-in-40-to-47 c = rw (effect_of_code-background c.args.code (elim c.in-40-to-47-1.branch [ then-code-lt48 w ↦ grind (arith, nat_tests) | else-code-lt48+else-code-lt90+else-code-lt98+else-code-lt100+then-code-lt108 w ↦ grind (arith, nat_tests) ]), c.of_code-self.ensures)
 
 -- no row of the table has another code
 pub returns-in_default : goal.returns-in_default

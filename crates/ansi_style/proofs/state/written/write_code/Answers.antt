@@ -1,6 +1,6 @@
 use Rattle.ansi_style.proofs.DecimalLemmas.{two_digits}
 use Rattle.ansi_style.proofs.WritingLemmas.{wrote_once, wrote_two}
-use Rattle.ansi_style.proofs.Common.{arith, refl, true}
+use Rattle.ansi_style.proofs.Common.{arith, refl}
 use Rattle.ansi_style.proofs.state.written.write_code.Goals as goal
 
 -- two digits

@@ -12,4 +12,4 @@ returns-clause-wrote g c = λ ok.
     let font_on = wrote_two took _ _ _ _ _ _ (c.in_ok-write_font.ensures.wrote (refl {a = true})) shapes_on refl in
     let letters_on = wrote_two took _ _ _ _ _ _ (c.in_ok-write_rows-2.ensures.wrote (refl {a = true})) font_on refl in
     wrote_two took _ _ _ _ _ _ (c.in_ok-write_rows.ensures.wrote (refl {a = true})) letters_on
-    (rw (c.intersection.ensures tt, c.intersection-2.ensures tt, c.intersection-3.ensures tt, c.intersection-4.ensures tt) (start_by_rows c.args.style.now))
+    (rw (c.intersection.ensures tt, c.intersection-2.ensures tt, c.intersection-3.ensures tt, c.intersection-4.ensures tt, c.font.ensures) (start_by_rows c.args.style.now))

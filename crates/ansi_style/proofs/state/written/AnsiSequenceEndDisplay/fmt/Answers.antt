@@ -1,4 +1,3 @@
-use Rattle.ansi_style.proofs.Common.{sym, ◌∙◌}
 use Rattle.ansi_style.proofs.WritingLemmas.{wrote_through}
 use Rattle.ansi_style.proofs.state.written.AnsiSequenceEndDisplay.fmt.Goals as goal
 
