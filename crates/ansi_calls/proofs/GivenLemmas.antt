@@ -1,11 +1,11 @@
 -- Texts that an iterator returns, one more at a time, and all of them.
-use Rattle.std.proofs.Common.{◌≡◌, ◌∙◌, ℕ, ◌+◌, ◌<◌, ◌^◌, Bool, List, [], ◌∷◌, ◌++◌, length, take, drop, map, All, Option, Result, Ok, Err, refl, sym, ap, ap₂, subst, arith, append-nil, length-append, IsTrue, IsOk}
+use Rattle.std.proofs.Common.{◌≡◌, ◌∙◌, ℕ, ◌+◌, ◌<◌, ◌≤◌, ◌^◌, Bool, List, [], ◌∷◌, ◌++◌, length, take, drop, map, All, Option, Result, Ok, Err, refl, sym, ap, ap₂, subst, arith, append-nil, length-append, IsTrue, IsOk}
 use Rattle.std.specs.Prelude.{flat_map}
 use Rattle.std.specs.Iterator.{Yields, Drains, HoldsAlong}
 use Rattle.std.specs.List.{list_all}
 use Rattle.std.specs.declared.borrow.CowStr.{CowStr}
 use Rattle.std.proofs.lemmas.Bool.{and_parts}
-use Rattle.std.proofs.lemmas.List.{length-map, map-append}
+use Rattle.std.proofs.lemmas.List.{length-map, length-drop, map-append}
 use Rattle.std.proofs.lemmas.List.Concat.{flat_map-cons, flat_map-append}
 use Rattle.std.proofs.lemmas.List.Elements.{All-from_recursion, recursion_from_All, All-head, All-tail}
 use Rattle.std.proofs.lemmas.Slice.{drop-append-drop}
@@ -40,6 +40,24 @@ written-more old now after items more is put =
     let back : drop end now ≡ drop (length (items ++ more)) old
     = ap (drop end) is ∙ drop-append-drop (length items) old items end (omega arith) refl ∙ ap (λ n. drop n old) (sym (length-append items more)) in
     put ∙ ap₂ (λ u v. u ++ more ++ v) front back
+
+-- these bytes are at the front, up to a place, and the rest is unchanged
+pub record IsPutSoFar (old u now : List ℕ) (place : ℕ) : Type 0 where
+  pub bytes : now ≡ u ++ drop (length u) old
+  pub at : place ≡ length u
+
+pub put-begin : (old : List ℕ) → IsPutSoFar old [] old 0
+put-begin old = record { bytes = refl; at = refl }
+
+pub put-more : {old u now after : List ℕ} {place next : ℕ} (more : List ℕ) → IsPutSoFar old u now place → place + length more ≤ length old
+    → (place + length more ≤ length now → after ≡ take place now ++ more ++ drop (place + length more) now) → next ≡ place + length more → IsPutSoFar old (u ++ more) after next
+put-more {old} {u} {now} {after} {place} {next} more so_far room put next_is =
+    let rest = drop (length u) old in
+    let size : length now ≡ length old = omega (arith, ap length so_far.bytes, length-append u rest, length-drop (length u) old, so_far.at, room) in
+    record {
+      bytes = written-more old now after u more so_far.bytes (put (omega (arith, size, room)) ∙ ap (λ n. take n now ++ more ++ drop (n + length more) now) so_far.at);
+      at = omega (arith, next_is, so_far.at, length-append u more);
+    }
 
 abbrev text_of : CarriedPart → List ℕ
 text_of p = p.bytes

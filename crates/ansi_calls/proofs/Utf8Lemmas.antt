@@ -1,5 +1,5 @@
 -- The effect of a call, by the UTF-8 check of each of its texts.
-use Rattle.std.proofs.Common.{◌≡◌, ◌∙◌, Bool, true, false, not, ◌&&◌, ℕ, List, [], ◌∷◌, Option, Some, Result, Ok, Err, IsTrue, inl, inr, sym, refl, subst}
+use Rattle.std.proofs.Common.{◌≡◌, ◌⊎◌, ◌∙◌, Bool, true, false, not, ◌&&◌, ℕ, List, [], ◌∷◌, Option, Some, Result, Ok, Err, IsTrue, inl, inr, sym, refl, subst}
 use Rattle.std.specs.Prelude.{IsOk, IfOk, IsFalse, option_map, MatchResult}
 use Rattle.std.specs.Cow.{cow_str_bytes}
 use Rattle.std.specs.declared.borrow.CowStr.{CowStr}
@@ -7,6 +7,8 @@ use Rattle.std.proofs.lemmas.Bool.{true≢false}
 use Rattle.std.proofs.lemmas.Str.{IsUtf8-from_is_utf8, is_utf8-from_IsUtf8}
 use Rattle.std.specs.List.{list_all}
 use Rattle.std.specs.Str.{is_utf8}
+use Rattle.ansi_columns.specs.declared.shown.Shown.{Shown}
+use Rattle.ansi_columns.specs.Shown.{shown_bytes, IsLent}
 use Rattle.ansi_calls.specs.declared.answers.Answer.{Answer}
 use Rattle.ansi_calls.specs.Answers.{out_of_memory, OnUtf8, HasFailed, IsFound, IsWritten, Gives}
 
@@ -59,3 +61,19 @@ pub Gives-made : {A E : Type 0} (absent : ℕ) (makes : Bool) (text : List ℕ) 
 Gives-made absent makes text (Ok c) answer old new is fits told = inl (subst (λ text. IsWritten text answer old new) is told)
 Gives-made absent true text (Err e) answer old new is fits told = inr (refl, told)
 Gives-made absent false text (Err e) answer old new is fits told = absurd (true≢false (sym (fits refl)))
+
+-- the same for a text that isn't joined yet
+pub Gives-shown : {A E : Type 0} (absent : ℕ) (stays : Bool) (text : List ℕ) (gave : Result (Shown A) E) (answer : Answer) (old new : List ℕ)
+    → IfOk gave (λ s. shown_bytes s ≡ text) → (IsTrue stays → IsOk gave) → (IsTrue stays → IfOk gave IsLent)
+    → MatchResult gave (λ s. IsWritten (shown_bytes s) answer old new ⊎ ((IsLent s → ⊥) × HasFailed out_of_memory answer old new)) (λ e. HasFailed out_of_memory answer old new)
+    → Gives absent (not stays) (Some text) answer old new
+Gives-shown absent stays text (Ok s) answer old new is fits lent (inl told) = inl (subst (λ text. IsWritten text answer old new) is told)
+Gives-shown absent true text (Ok s) answer old new is fits lent (inr told) = absurd (told.0 (lent refl))
+Gives-shown absent false text (Ok s) answer old new is fits lent (inr told) = inr (refl, told.1)
+Gives-shown absent true text (Err e) answer old new is fits lent told = absurd (true≢false (sym (fits refl)))
+Gives-shown absent false text (Err e) answer old new is fits lent told = inr (refl, told)
+
+-- there is no memory for what it needs first
+pub Gives-failed : (absent : ℕ) (stays : Bool) (text : List ℕ) (answer : Answer) (old : List ℕ) → (IsTrue stays → ⊥) → HasFailed out_of_memory answer old old → Gives absent (not stays) (Some text) answer old old
+Gives-failed absent true text answer old never told = absurd (never refl)
+Gives-failed absent false text answer old never told = inr (refl, told)

@@ -7,10 +7,12 @@ ghost use Rattle.ansi_calls.specs.Columns.{Fits, GivesFitted, side_of, Truncates
 ghost use Rattle.ansi_calls.specs.Columns.{GivesTruncatedAt, ExpandsTabs, GivesExpanded};
 ghost use Rattle.ansi_calls.specs.Columns.{WritesLink};
 
-use crate::answers::{Answer, NO, NOT_UTF8, REFUSED, write, write_text};
-use ansi_columns::shown::Alignment;
+use crate::answers::{Answer, NO, NOT_UTF8, OUT_OF_MEMORY, REFUSED, write, write_text};
+use crate::shown::write_shown;
+use ansi_columns::fit::fit_shown;
+use ansi_columns::shown::{Alignment, closed_cell, pad_shown, truncate_shown};
 use ansi_columns::sides::{Side, Truncation};
-use ansi_columns::{addresses, columns, shown, sides, slices, tabs};
+use ansi_columns::{addresses, columns, sides, slices, tabs};
 use ansi_safe::utf8::from_utf8;
 use std::alloc::Allocator;
 
@@ -89,7 +91,11 @@ fn truncate_text<A: Allocator + Copy>(
 ) -> Answer
     ensures { GivesTruncated text.now width tail.now result buffer.old buffer.new }
 {
-    write_text(shown::truncate(alloc, text, width, tail), buffer)
+    let Ok(tail) = closed_cell(alloc, tail) else {
+        return Answer::failed(OUT_OF_MEMORY);
+    };
+    let shown = truncate_shown(alloc, text, width, tail.as_str());
+    write_shown(alloc, shown, buffer)
 }
 
 /// The text padded to `width` columns. The call is refused if there is no such alignment.
@@ -123,7 +129,7 @@ fn pad_text<A: Allocator + Copy>(
 ) -> Answer
     ensures { GivesPadded text.now width (Some alignment) result buffer.old buffer.new }
 {
-    write_text(shown::pad(alloc, text, width, alignment), buffer)
+    write_shown(alloc, pad_shown(alloc, text, width, alignment), buffer)
 }
 
 /// The text truncated or padded to `width` columns. The call is refused if there is no such
@@ -162,8 +168,11 @@ fn fit_text<A: Allocator + Copy>(
 {
     match alignment_of(alignment) {
         Some(alignment) => {
-            let cell = ansi_columns::fit::fit(alloc, text, width, alignment, tail);
-            write_text(cell, buffer)
+            let Ok(tail) = closed_cell(alloc, tail) else {
+                return Answer::failed(OUT_OF_MEMORY);
+            };
+            let shown = fit_shown(alloc, text, width, alignment, tail.as_str());
+            write_shown(alloc, shown, buffer)
         }
         None => Answer::failed(REFUSED),
     }

@@ -18,6 +18,7 @@ pub mod replacements;
 pub mod restyles;
 pub mod safe;
 pub mod searches;
+mod shown;
 pub mod styles;
 pub mod texts;
 pub mod walks;

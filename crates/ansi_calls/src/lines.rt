@@ -1,6 +1,6 @@
 //! Calls that wrap a text. One returns its lines, concatenated, and where each ends. The others
 //! return where each begins and ends in the plain text, all at once or one by one.
-ghost use Rattle.std.specs.Prelude.{◌≡◌, ◌⊎◌, ◌<◌, ◌≤◌, [], ◌++◌, length, drop, flat_map};
+ghost use Rattle.std.specs.Prelude.{◌≡◌, ◌⊎◌, ◌<◌, ◌≤◌, [], ◌++◌, length, drop, flat_map, map};
 ghost use Rattle.std.specs.Prelude.{IsFalse, IfNone, IfSome, not, ◌||◌, bytes_eq};
 ghost use Rattle.std.specs.Prelude.{IfOk, string_bytes};
 ghost use Rattle.ansi_items.specs.Plain.{has_escape};
@@ -12,14 +12,16 @@ ghost use Rattle.ansi_calls.specs.Columns.{line_entries, WritesLines, BeginsLine
 
 use crate::answers::{Answer, NO, NOT_UTF8, OK, TOO_SMALL};
 use crate::lists::{ListAnswer, copy_texts, put, write_copied, write_texts};
+use crate::walks::write_between;
 use ansi_columns::laws;
 use ansi_columns::line_walks::{LineWalk, next_line, walk_lines};
 use ansi_columns::lines::Lines;
 use ansi_columns::wrap::indents::{Wrap, wrap_with as wrapped_with};
-use ansi_columns::wrap::wrap as wrapped;
+use ansi_columns::wrap::{AnsiWrap, only_line, wrap as wrapped};
 use ansi_safe::cells::paragraph_of;
 use ansi_safe::utf8::from_utf8;
 use ansi_str::AnsiStr;
+use ansi_style::styles;
 use std::alloc::Allocator;
 use std::borrow::CowStr;
 
@@ -48,7 +50,40 @@ pub fn wrap<A: Allocator + Copy>(
     if is_bare_paragraph(alloc, text) {
         return write_bare_lines(alloc, text, width, buffer, ends);
     }
-    write_texts(alloc, text.len(), wrapped(alloc, text, width), buffer, ends)
+    let lines = wrapped(alloc, text, width);
+    match write_only(&lines, buffer, ends) {
+        Some(answer) => answer,
+        None => write_texts(alloc, text.len(), lines, buffer, ends),
+    }
+}
+
+/// Writes the only line of a wrap and where it ends, if it is known that there is only one, and there
+/// is room. `None` says nothing, and nothing is written then. Doesn't allocate.
+fn write_only<A: Allocator>(
+    lines: &AnsiWrap<'_, A>,
+    buffer: &mut [u8],
+    ends: &mut [usize],
+) -> Option<ListAnswer>
+    ensures some { IfSome result (λ answer. AreWritten (flat_map (λ t. t) (map (λ l. l.bytes)
+        lines.now)) (ends_from 0 (map (λ l. l.bytes) lines.now)) answer buffer.old buffer.new
+        ends.old ends.new) }
+    ensures none { IfNone result ((buffer.new ≡ buffer.old) × (ends.new ≡ ends.old)) }
+{
+    let (text, style) = only_line(lines)?;
+    if ends.is_empty() {
+        return None;
+    }
+    let close = styles::short_close(&style)?;
+    let answer = write_between("", text, close.as_str(), buffer);
+    if answer.status != OK {
+        return None;
+    }
+    ends[0] = answer.len;
+    Some(ListAnswer {
+        status: OK,
+        count: 1,
+        len: answer.len,
+    })
 }
 
 /// The lines of the text wrapped at `width` columns with an indent before each, ready for display,

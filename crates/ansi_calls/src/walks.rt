@@ -267,7 +267,7 @@ fn styled<A: Allocator>(alloc: A, text: &str, style: &Style) -> Result<String<A>
 }
 
 /// Writes a text between two short ones, if there is room for all three.
-fn write_between(start: &str, text: &str, close: &str, buffer: &mut [u8]) -> Answer
+pub(crate) fn write_between(start: &str, text: &str, close: &str, buffer: &mut [u8]) -> Answer
     requires start { length start.now ≤ SHORT }
     requires close { length close.now ≤ SHORT }
     ensures { IsWritten (start.now ++ text.now ++ close.now) result buffer.old buffer.new }

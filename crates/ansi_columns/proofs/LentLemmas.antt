@@ -18,7 +18,7 @@ use Rattle.ansi_columns.specs.Columns.{clusters}
 use Rattle.ansi_columns.specs.Lines.{lines_from}
 use Rattle.ansi_columns.specs.Walks.{clusters_from}
 use Rattle.ansi_columns.specs.declared.wrap.spans.Next.{Next}
-use Rattle.ansi_columns.specs.declared.wrap.spans.Next.TheVariants.{First, At, Nothing}
+use Rattle.ansi_columns.specs.declared.wrap.spans.Next.TheVariants.{First, Only, At, Nothing}
 use Rattle.ansi_columns.specs.declared.wrap.spans.Spans.{Spans}
 use Rattle.ansi_columns.specs.Wrapped.{CarriedPart, lines_over, lent_lines, wrapped, marks_left, GivesLine}
 use Rattle.ansi_columns.specs.WrapStates.{open_link, lines_of, lines_next, HasNext, lines_after, span_lines, AreNew, shown_text, is_lent, AreLeft}
@@ -51,6 +51,7 @@ first-left t s some = by s.next some
 
     by : (next : Next) → HasNext next → (l : CarriedPart) × (ls : List CarriedPart) × (lines_after t s next ≡ l ∷ ls)
     by First some = filled (lines_next t s.width First) (lines_filled s.width 0 0 0 0 (clusters (plain t)))
+    by (Only line) some = filled (lines_next t s.width (Only line)) (lines_filled s.width 0 0 0 0 (clusters (plain t)))
     by (At w) some = filled (lines_next t s.width (At w)) (lines_filled s.width w.position w.position w.position 0 (clusters_from t w.position))
     by Nothing some = absurd some
 
@@ -60,11 +61,11 @@ unfolding lines_over
 none-left t s none = ap (lines_after t s) none
 
 -- before the first line, all lines are left
-pub new-lines : (t : List ℕ) (s : Spans) → s.next ≡ First → AreNew s → span_lines t s ≡ lines_over plain_style [] (plain t) (marks t) (lines_from s.width 0 0 0 0 (clusters (plain t)))
-new-lines t s first new =
+pub new-lines : (t : List ℕ) (s : Spans) (next : Next) → lines_next t s.width next ≡ lines_from s.width 0 0 0 0 (clusters (plain t)) → AreNew s → lines_after t s next ≡ lines_over plain_style [] (plain t) (marks t) (lines_from s.width 0 0 0 0 (clusters (plain t)))
+new-lines t s next first new =
     let is = lines_from s.width 0 0 0 0 (clusters (plain t)) in
     let link : open_link t s.pen ≡ [] = ap₂ (slice_range t) new.link_start new.link_end in
-    ap (lines_after t s) first
+    ap (lines_over (rendition_of s.pen.style) (open_link t s.pen) (plain t) (marks_left t s.before s.taken)) first
     ∙ ap₂ (λ r l. lines_over r l (plain t) (marks_left t s.before s.taken) is) new.style link
     ∙ ap₂ (λ b k. lines_over plain_style [] (plain t) (marks_left t b k) is) new.before new.taken
     ∙ ap (λ ms. lines_over plain_style [] (plain t) ms is) (marks_left-start t)

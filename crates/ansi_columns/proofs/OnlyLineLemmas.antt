@@ -1,9 +1,9 @@
 -- A text of printable ASCII and SGRs that fits into one line: its only line.
-use Rattle.std.proofs.Common.{◌≡◌, ◌≢◌, ℕ, suc, ◌+◌, ◌-◌, ◌≤◌, ◌==◌, ◌||◌, Bool, true, false, not, List, [], ◌∷◌, ◌++◌, length, slice_index, if◌then◌else◌, true≢false, refl, sym, ◌∙◌, ap, ap₂, arith, eqb-true, length-append}
+use Rattle.std.proofs.Common.{◌≡◌, ◌≢◌, ℕ, suc, ◌+◌, ◌-◌, ◌≤◌, ◌==◌, ◌&&◌, ◌||◌, Bool, true, false, not, List, [], ◌∷◌, ◌++◌, length, map, slice_index, if◌then◌else◌, true≢false, refl, sym, ◌∙◌, ap, ap₂, arith, eqb-true, length-append}
 use Rattle.std.specs.List.{list_all}
 use Rattle.std.specs.Str.{IsUtf8}
 use Rattle.std.proofs.lemmas.Bool.{and_parts, cond_both, eq-eqb, ne_eqb, le-leb, or_right}
-use Rattle.std.proofs.lemmas.List.{take_all}
+use Rattle.std.proofs.lemmas.List.{take_all, nil_from_length}
 use Rattle.std.proofs.lemmas.Str.{chars-IsAscii, IsCharBoundary-start, IsCharBoundary-end}
 use Rattle.std.proofs.lemmas.Str.Ascii.{IsAscii-from_all}
 use Rattle.ansi_items.specs.Pieces.{Piece, Text, Sequence, LoneEscape, ArePieces, pieces_of}
@@ -13,17 +13,28 @@ use Rattle.ansi_items.proofs.PlainLemmas.{has_escape-plain, length-plain, plain-
 use Rattle.ansi_items.proofs.Utf8Lemmas.{IsUtf8-plain}
 use Rattle.ansi_style.specs.declared.state.rendition.Rendition.{Rendition}
 use Rattle.ansi_style.specs.Rendition.{plain_style}
-use Rattle.ansi_style.specs.Reading.{style_after_from}
+use Rattle.ansi_style.specs.Reading.{after_marks, style_after_from}
+use Rattle.ansi_style.specs.States.{rendition_of}
+use Rattle.ansi_style.specs.Styled.{style_after}
+use Rattle.ansi_style.specs.Written.{start, close}
+use Rattle.ansi_slice.specs.Cut.{interleaved}
+use Rattle.ansi_slice.specs.Kept.{kept}
+use Rattle.ansi_slice.proofs.KeptWalkLemmas.{kept-all}
 use Rattle.ansi_search.specs.Offsets.{offset_of}
 use Rattle.ansi_search.proofs.PositionLemmas.{no_character_goes_on-boundary, no_character_goes_on-past}
-use Rattle.ansi_safe.specs.Links.{link_after_all}
+use Rattle.ansi_safe.specs.Links.{link_of, link_after_all}
 use Rattle.ansi_safe.proofs.LinkLemmas.{link_after_all-none}
 use Rattle.ansi_columns.specs.Columns.{cluster_width, clusters}
 use Rattle.ansi_columns.specs.Walks.{clusters_after}
 use Rattle.ansi_columns.specs.Lines.{is_line_end, is_blank, word_columns, lines_from}
 use Rattle.ansi_columns.specs.PlainCells.{last_byte, IsPlainCell}
 use Rattle.ansi_columns.specs.Words.{end_after}
-use Rattle.ansi_columns.specs.Wrapped.{line_over, lines_over, IsLineSpan}
+use Rattle.ansi_columns.specs.Wrapped.{CarriedPart, line_over, lines_over, pen_end, IsLineSpan}
+use Rattle.ansi_columns.specs.declared.wrap.spans.OnlyLine.{OnlyLine}
+use Rattle.ansi_columns.specs.declared.wrap.spans.Spans.{Spans}
+use Rattle.ansi_columns.specs.declared.wrap.spans.Next.TheVariants.{Only}
+use Rattle.ansi_columns.specs.WrapStates.{lines_next, span_lines, AreNew, IsOnlyLine}
+use Rattle.ansi_columns.proofs.LentLemmas.{new-lines}
 use Rattle.ansi_columns.proofs.AsciiLemmas.{is_printable, width-single, All-printable_is_ascii, columns-printable}
 use Rattle.ansi_columns.proofs.KindLemmas.{is_blank-other, is_blank-space}
 use Rattle.ansi_columns.proofs.LineLemmas.{more_at, line-blank, line-last, line-stays}
@@ -94,7 +105,22 @@ escape-shortens t = by_test (has_escape t) refl
 
 -- ---- the line of such a text
 
-module _ {t : List ℕ} {width left last : ℕ} {style : Rendition} (utf8 : IsUtf8 t) (is : IsPlainCell t width left style last) where
+-- its bytes
+pub only-bytes : (t : List ℕ) → link_of (marks t) ≡ [] → (line_over plain_style [] (plain t) (marks t) (0, length (plain t))).bytes ≡ t ++ close (style_after t)
+unfolding line_over kept
+only-bytes t link_is =
+    let n = length (plain t) in
+    let whole : interleaved (plain t) 0 n (marks t) ≡ t = kept-all t n (omega arith) in
+    let no_link : link_after_all [] (marks t) ≡ [] = link_after_all-none (marks t) ∙ link_is in
+    cond_both ((0 == n) && (length (marks t) == 0)) [] (start plain_style ++ [] ++ interleaved (plain t) 0 n (marks t) ++ pen_end (link_after_all [] (marks t)) (after_marks plain_style (marks t))) (λ u. u ≡ t ++ close (style_after t))
+    (λ nothing. (
+    let both = and_parts (0 == n) (length (marks t) == 0) nothing in
+    let no_marks : marks t ≡ [] = nil_from_length (marks t) (eqb-true (length (marks t)) 0 both.1) in
+    let empty : t ≡ [] = sym whole ∙ ap₂ (λ x ms. interleaved x 0 (length x) ms) (nil_from_length (plain t) (sym (eqb-true 0 n both.0))) no_marks in
+    sym (ap (λ u. u ++ close (style_after u)) empty)))
+    (λ some. ap₂ (λ u l. u ++ pen_end l (style_after t)) whole no_link)
+
+module _ {t : List ℕ} {width left last : ℕ} {style : Rendition} (is : IsPlainCell t width left style last) where
   size : length (plain t) + left ≡ width
   size = omega (arith, is.sum, columns-printable (plain t) is.printable)
 
@@ -104,15 +130,15 @@ module _ {t : List ℕ} {width left last : ℕ} {style : Rendition} (utf8 : IsUt
       let end : length (plain t) ≡ width - left = omega (arith, size) in
       ap (lines_over plain_style [] (plain t) (marks t)) (only-interval width (plain t) is.printable (omega (arith, size)) (λ e. solid (is.last_is ∙ e)) ∙ ap (λ n. (0, n) ∷ []) end)
 
-  pub only-span : {before after : Rendition} {link link_after : List ℕ} → before ≡ plain_style → link ≡ [] → after ≡ style → link_after ≡ [] → IsLineSpan before link t 0 (width - left) (length t) (not (width - left == length t)) after link_after
-  only-span {before} {after} {link} {link_after} before_is link_is after_is link_after_is =
-      let end : width - left ≡ length (plain t) = omega (arith, size) in
+  pub only-span : {before after : Rendition} {link link_after : List ℕ} {len : ℕ} → IsUtf8 t → len ≡ width - left → before ≡ plain_style → link ≡ [] → after ≡ style → link_after ≡ [] → IsLineSpan before link t 0 len (length t) (not (len == length t)) after link_after
+  only-span {before} {after} {link} {link_after} {len} utf8 len_is before_is link_is after_is link_after_is =
+      let end : len ≡ length (plain t) = omega (arith, len_is, size) in
       record {
         marked = ap (λ n. not (n == length t)) end ∙ escape-shortens t;
         ordered = omega arith;
         start_good = no_character_goes_on-boundary (plain t) 0 (IsCharBoundary-start (plain t) (IsUtf8-plain t utf8));
         end_stands = record {
-          good = no_character_goes_on-past (plain t) (width - left) (omega (arith, end));
+          good = no_character_goes_on-past (plain t) len (omega (arith, end));
           offset = sym (ap (offset_of t) end ∙ offset_of-end t);
           boundary = IsCharBoundary-end t;
         };
@@ -120,3 +146,13 @@ module _ {t : List ℕ} {width left last : ℕ} {style : Rendition} (utf8 : IsUt
         styled = after_is ∙ is.text.style_is ∙ ap (λ s. style_after_from s t) (sym before_is);
         linked = link_after_is ∙ sym is.text.link_is ∙ sym (link_after_all-none (marks t)) ∙ ap (λ l. link_after_all l (marks t)) (sym link_is);
       }
+
+-- nothing else is left of spans that begin with it
+pub only-left : {t : List ℕ} {line : OnlyLine} (s : Spans) → s.next ≡ Only line → AreNew s → IsOnlyLine t s.width line → map (λ (l : CarriedPart). l.bytes) (span_lines t s) ≡ (t ++ close (rendition_of line.style)) ∷ []
+only-left {t} {line} s next new is =
+    let first = new-lines t s s.next (ap (lines_next t s.width) next) new ∙ only-line is.is_cell is.solid in
+    let end : s.width - is.left ≡ length (plain t) = omega (arith, size is.is_cell) in
+    ap (map (λ (l : CarriedPart). l.bytes)) first
+    ∙ ap (λ n. (line_over plain_style [] (plain t) (marks t) (0, n)).bytes ∷ []) end
+    ∙ ap (λ u. u ∷ []) (only-bytes t is.is_cell.text.link_is)
+    ∙ ap (λ r. (t ++ close r) ∷ []) (sym is.is_cell.text.style_is)

@@ -259,10 +259,10 @@ pub record IsPadded (t : List ℕ) (width left : ℕ) (close : List ℕ) : Type 
   pub closes : close ++ [] ≡ closing (cell t)
   pub bytes : (alignment : Alignment) → between_blanks left alignment ((t ++ close) ++ []) ≡ padded (cell t) width alignment
 
-pub plain-padded : {t : List ℕ} {width left last : ℕ} {style : Rendition} → IsPlainCell t width left style last → IsPadded t width left ([] ++ close style)
-plain-padded {t} {width} {left} {style = style} is =
+pub plain-padded : {t : List ℕ} {most left last : ℕ} {style : Rendition} (width : ℕ) {blanks : ℕ} → IsPlainCell t most left style last → blanks ≡ width - (most - left) → IsPadded t width blanks ([] ++ close style)
+plain-padded {t} {most} {left} {style = style} width {blanks} is blanks_are =
     let stays = is.text.stays in
-    let lack : left ≡ missing (cell t) width = omega (arith, is.sum, ap (λ u. columns (plain u)) stays) in
+    let lack : blanks ≡ missing (cell t) width = omega (arith, blanks_are, is.sum, ap (λ u. columns (plain u)) stays) in
     let closes = append-nil ([] ++ close style) ∙ ending-closing (sym stays) is.text.style_is (sym is.text.link_is) refl refl in
     record {
       lack = lack;

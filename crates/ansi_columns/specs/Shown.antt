@@ -1,11 +1,15 @@
 -- Truncated and padded texts, ready for display: the style and link still open at their end are closed.
 use Rattle.std.specs.Prelude.{◌≡◌, ℕ, ◌+◌, ◌-◌, ◌/◌, Bool, not, ◌&&◌, List, [], ◌∷◌, ◌++◌, length, replicate, map, chars, encode_utf8, encode_utf8_all, nat_le, if◌then◌else◌}
 use Rattle.std.specs.Str.{byte}
+use Rattle.std.specs.Cow.{cow_str_bytes, IsBorrowedStr}
 use Rattle.ansi_items.specs.Plain.{plain, marks, marks_up_to}
 use Rattle.ansi_style.specs.Rendition.{plain_style}
 use Rattle.ansi_style.specs.Styled.{StyledByte}
 use Rattle.ansi_slice.specs.Cut.{interleaved}
+use Rattle.ansi_style.specs.States.{rendition_of}
+use Rattle.ansi_style.specs.Written.{close}
 use Rattle.ansi_columns.specs.declared.shown.Alignment.{Alignment}
+use Rattle.ansi_columns.specs.declared.shown.Shown.{Shown}
 use Rattle.ansi_columns.specs.declared.shown.Alignment.TheVariants.{Left, Right, Center}
 use Rattle.ansi_columns.specs.Columns.{clusters, cluster_width, columns}
 use Rattle.ansi_safe.specs.Cells.{cell, cell_char}
@@ -71,6 +75,14 @@ blanks n = replicate n (byte " ")
 -- a text between n blanks (own)
 abbrev pub between_blanks : ℕ → Alignment → List ℕ → List ℕ
 between_blanks n alignment x = (blanks (before_text alignment n) ++ x) ++ blanks (n - before_text alignment n)
+
+-- a text that is ready for display, joined: the missing blanks are around the text, what ends its pen, and a tail (own)
+abbrev pub shown_bytes : {A : Type 0} → Shown A → List ℕ
+shown_bytes s = between_blanks s.missing s.alignment ((cow_str_bytes s.text ++ (s.ending.link_end.now ++ close (rendition_of s.ending.style))) ++ s.tail.now)
+
+-- it is a text that the caller lends, and nothing is written before and after it
+abbrev pub IsLent : {A : Type 0} → Shown A → Type 0
+IsLent s = IsBorrowedStr s.text × ((s.ending.link_end.now ++ close (rendition_of s.ending.style)) ++ s.tail.now ≡ []) × (s.missing ≡ 0)
 
 -- bytes in the plain style
 abbrev pub without_style : List ℕ → List StyledByte

@@ -1,7 +1,7 @@
 -- What a wrap has left of its text. No public contract cites it.
-use Rattle.std.specs.Prelude.{◌≡◌, ℕ, ◌≤◌, Bool, true, false, List, [], slice_range, Option, Some, None, IsSome}
+use Rattle.std.specs.Prelude.{◌≡◌, ◌≢◌, ℕ, ◌-◌, ◌≤◌, Bool, true, false, List, [], slice_range, Option, Some, None, IsSome}
 use Rattle.std.specs.Cow.{cow_str_bytes}
-use Rattle.std.specs.Str.{IsCharBoundary}
+use Rattle.std.specs.Str.{byte, IsCharBoundary}
 use Rattle.std.specs.declared.borrow.CowStr.{CowStr}
 use Rattle.std.specs.declared.borrow.CowStr.TheVariants.{Borrowed, Owned}
 use Rattle.ansi_items.specs.Plain.{plain, marks}
@@ -11,10 +11,12 @@ use Rattle.ansi_style.specs.States.{rendition_of}
 use Rattle.ansi_columns.specs.declared.wrap.pens.PenAt.{PenAt}
 use Rattle.ansi_columns.specs.declared.walks.Walk.{Walk}
 use Rattle.ansi_columns.specs.declared.wrap.spans.Next.{Next}
-use Rattle.ansi_columns.specs.declared.wrap.spans.Next.TheVariants.{First, At, Nothing}
+use Rattle.ansi_columns.specs.declared.wrap.spans.Next.TheVariants.{First, Only, At, Nothing}
+use Rattle.ansi_columns.specs.declared.wrap.spans.OnlyLine.{OnlyLine}
 use Rattle.ansi_columns.specs.declared.wrap.spans.Spans.{Spans}
 use Rattle.ansi_columns.specs.Columns.{clusters}
 use Rattle.ansi_columns.specs.Lines.{lines, lines_from, lines_left}
+use Rattle.ansi_columns.specs.PlainCells.{IsPlainCell}
 use Rattle.ansi_columns.specs.Wrapped.{CarriedPart, lines_over, marks_left, IsTaken}
 
 -- the interval is a stretch of t: t may be cut at its beginning and at its end
@@ -34,12 +36,14 @@ lines_of t width = lines_over plain_style [] (plain t) (marks t) (lines width (p
 -- the positions of the next line of t and of those after it
 abbrev pub lines_next : List ℕ → ℕ → Next → List (ℕ × ℕ)
 lines_next t width First = lines_from width 0 0 0 0 (clusters (plain t))
+lines_next t width (Only line) = lines_from width 0 0 0 0 (clusters (plain t))
 lines_next t width (At walk) = lines_left t width (Some walk)
 lines_next t width Nothing = []
 
 -- a line is left
 abbrev pub HasNext : Next → Type 0
 HasNext First = Unit
+HasNext (Only line) = Unit
 HasNext (At walk) = Unit
 HasNext Nothing = ⊥
 
@@ -64,9 +68,18 @@ pub record AreTaken (t : List ℕ) (s : Spans) (walk : Walk) : Type 0 where
   pub taken : IsTaken t s.before s.taken walk
   pub link : IsCharRange t s.pen.link_start s.pen.link_end
 
+-- the text is printable ASCII and SGRs alone, fits into the width and doesn't end with a blank; the line is all of it
+pub record IsOnlyLine (t : List ℕ) (width : ℕ) (line : OnlyLine) : Type 0 where
+  pub left : ℕ
+  pub last : ℕ
+  pub is_cell : IsPlainCell t width left (rendition_of line.style) last
+  pub solid : last ≢ byte " "
+  pub len : line.len ≡ width - left
+
 -- they are spans of t, if this is the next line
 abbrev pub AreSpansAt : List ℕ → Spans → Next → Type 0
 AreSpansAt t s First = AreNew s
+AreSpansAt t s (Only line) = AreNew s × IsOnlyLine t s.width line
 AreSpansAt t s (At walk) = AreTaken t s walk
 AreSpansAt t s Nothing = Unit
 

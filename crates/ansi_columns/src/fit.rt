@@ -11,10 +11,10 @@ ghost use Rattle.ansi_columns.specs.OneLine.{is_one_line};
 ghost use Rattle.ansi_columns.specs.Rows.{cell_row, row_screen, fitted_row};
 ghost use Rattle.ansi_columns.specs.Screens.{screen};
 ghost use Rattle.ansi_columns.specs.Shown.{truncated_ending, truncated, KeptStays, missing, closing};
-ghost use Rattle.ansi_columns.specs.Shown.{closed_cell};
+ghost use Rattle.ansi_columns.specs.Shown.{closed_cell, shown_bytes, IsLent};
 
 use crate::shown::{
-    Alignment, TruncatedParts, closed_cell, pad_cell, truncated_parts, write_shown,
+    Alignment, Shown, TruncatedParts, closed_cell, join, pad_cell, truncated_parts, write_shown,
 };
 use ansi_safe::links::pen_after;
 use std::alloc::{AllocError, Allocator};
@@ -82,6 +82,37 @@ fn fit_beside<'t, A: Allocator + Copy>(
         × (missing (truncated (cell text.now) width tail.now) width ≡ 0)
         × (closing (truncated (cell text.now) width tail.now) ≡ []) → IsOk result }
 {
+    let shown = fit_shown(alloc, text, width, alignment, tail)?;
+    join(alloc, shown)
+}
+
+/// Like [`fit`], with a tail that is written as it is, and not joined yet.
+///
+/// ```
+/// let cell = fit_shown(rt.alloc(), "\x1b[31m日本語\x1b[39m", 4, Alignment::Right, "…")?;
+/// assert!(rt; cell.missing == 1 && cell.tail == "…");
+/// ```
+#[inline(always)]
+pub fn fit_shown<'t, 'a, A: Allocator + Copy>(
+    alloc: A,
+    text: &'t str,
+    width: usize,
+    alignment: Alignment,
+    tail: &'a str,
+) -> Result<Shown<'t, 'a, A>, AllocError>
+    ensures bytes { IfOk result (λ s.
+        shown_bytes s ≡ fitted (cell text.now) width alignment tail.entry.now) }
+    ensures borrowed { IfOk result (λ s. IsLent s ↔ (KeptStays text.now width tail.entry.now
+        × (truncated_ending (cell text.now) width tail.entry.now ≡ [])
+        × (missing (truncated (cell text.now) width tail.entry.now) width ≡ 0)
+        × (closing (truncated (cell text.now) width tail.entry.now) ≡ []))) }
+    ensures len { IfOk result (λ s. length (shown_bytes s)
+        ≤ length text.now + length tail.entry.now
+        + missing (truncated (cell text.now) width tail.entry.now) width
+        + 2 * (longest_link_end + longest_close)) }
+    ensures takes_no_memory { KeptStays text.now width tail.entry.now
+        × (truncated_ending (cell text.now) width tail.entry.now ≡ []) → IsOk result }
+{
     let TruncatedParts {
         front,
         ending,
@@ -89,9 +120,15 @@ fn fit_beside<'t, A: Allocator + Copy>(
         missing,
     } = truncated_parts(alloc, text, width, tail)?;
     if let Some(missing) = missing {
-        return write_shown(alloc, front, &ending, tail, missing, alignment);
+        return Ok(Shown {
+            text: front,
+            ending,
+            tail,
+            missing,
+            alignment,
+        });
     }
     let cut = write_shown(alloc, front, &ending, tail, 0, alignment)?;
     let ending = pen_after(cut.as_str()).ending();
-    pad_cell(alloc, cut, &ending, width, alignment)
+    Ok(pad_cell(cut, ending, width, alignment))
 }

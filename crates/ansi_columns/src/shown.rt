@@ -23,7 +23,7 @@ ghost use Rattle.ansi_columns.specs.Screens.{screen};
 ghost use Rattle.ansi_columns.specs.Shown.{has_tail, truncated_width, truncated_ending};
 ghost use Rattle.ansi_columns.specs.Shown.{truncated, KeptStays};
 ghost use Rattle.ansi_columns.specs.Shown.{missing, before_text, blanks, between_blanks, closing};
-ghost use Rattle.ansi_columns.specs.Shown.{padded, closed_cell};
+ghost use Rattle.ansi_columns.specs.Shown.{padded, closed_cell, shown_bytes, IsLent};
 ghost use Rattle.ansi_columns.specs.BreakStates.{break_state_of};
 ghost use Rattle.ansi_columns.specs.PlainCells.{IsFront};
 ghost use Rattle.ansi_columns.specs.Walks.{IsWalkIn, IsFitted, SeesUpTo};
@@ -103,18 +103,53 @@ pub(crate) fn truncate_beside<'t, A: Allocator + Copy>(
     ensures takes_no_memory { KeptStays text.now width tail.now
         × (truncated_ending (cell text.now) width tail.now ≡ []) → IsOk result }
 {
+    let shown = truncate_shown(alloc, text, width, tail)?;
+    join(alloc, shown)
+}
+
+/// Like [`truncate`], with a tail that is written as it is, and not joined yet.
+///
+/// ```
+/// let cut = truncate_shown(rt.alloc(), "\x1b[31m日本語\x1b[39m", 5, "…")?;
+/// assert!(rt; cut.tail == "…");
+/// assert!(rt; join(rt.alloc(), cut)?.as_str() == "\x1b[31m日本\x1b[39m…");
+/// ```
+#[inline(always)]
+pub fn truncate_shown<'t, 'a, A: Allocator + Copy>(
+    alloc: A,
+    text: &'t str,
+    width: usize,
+    tail: &'a str,
+) -> Result<Shown<'t, 'a, A>, AllocError>
+    ensures bytes { IfOk result (λ s. shown_bytes s ≡ truncated (cell text.now) width tail.entry.now) }
+    ensures borrowed { IfOk result (λ s. IsLent s ↔ (KeptStays text.now width tail.entry.now
+        × (truncated_ending (cell text.now) width tail.entry.now ≡ []))) }
+    ensures len { IfOk result (λ s. length (shown_bytes s)
+        ≤ length text.now + length tail.entry.now + longest_link_end + longest_close) }
+    ensures takes_no_memory { KeptStays text.now width tail.entry.now → IsOk result }
+{
     let TruncatedParts {
         front,
         ending,
         tail,
         missing: _,
     } = truncated_parts(alloc, text, width, tail)?;
-    write_shown(alloc, front, &ending, tail, 0, Alignment::Left)
+    Ok(Shown {
+        text: front,
+        ending,
+        tail,
+        missing: 0,
+        alignment: Alignment::Left,
+    })
 }
 
 /// A text beside another, such as a tail: the text of a cell, closed. The result may borrow from
-/// the text and lives as long as it.
-pub(crate) fn closed_cell<'t, A: Allocator + Copy>(
+/// the text and lives as long as it. `Err` means out of memory. (Own.)
+///
+/// ```
+/// assert!(rt; closed_cell(rt.alloc(), "\x1b[1m~\x07")?.as_str() == "\x1b[1m~\x1b[22m");
+/// ```
+pub fn closed_cell<'t, A: Allocator + Copy>(
     alloc: A,
     text: &'t str,
 ) -> Result<CowStr<'t, A>, AllocError>
@@ -137,6 +172,27 @@ fn is_usual_tail(text: &str) -> bool
     ensures { IsTrue result → closed_cell text.now ≡ text.now }
 {
     text == "…" || printable_len(text.as_bytes()) == text.len()
+}
+
+/// A text that is ready for display and not joined yet: the text of a cell, what ends its pen and a
+/// tail, in this order, and the blanks that are missing around them. (Own.)
+///
+/// ```
+/// let padded = pad_shown(rt.alloc(), "ab", 4, Alignment::Left)?;
+/// assert!(rt; padded.text.as_str() == "ab" && padded.missing == 2);
+/// ```
+#[derive(Drop)]
+pub struct Shown<'t, 'a, A: Allocator> {
+    /// A text of a cell.
+    pub text: CowStr<'t, A>,
+    /// What ends its pen.
+    pub ending: Ending,
+    /// What is written after that.
+    pub tail: &'a str,
+    /// The number of blanks.
+    pub missing: usize,
+    /// Where the blanks are.
+    pub alignment: Alignment,
 }
 
 /// The parts of a truncated text, in order, and what it lacks.
@@ -344,6 +400,31 @@ fn is_bare(tail: &str) -> bool
     first_run(tail) == (0, tail.len())
 }
 
+/// A shown text, as it is joined. A borrow if nothing is written before and after its text.
+///
+/// ```
+/// let padded = pad_shown(rt.alloc(), "ab", 4, Alignment::Center)?;
+/// assert!(rt; join(rt.alloc(), padded)?.as_str() == " ab ");
+/// ```
+#[inline(always)]
+pub fn join<'t, A: Allocator + Copy>(
+    alloc: A,
+    shown: Shown<'t, '_, A>,
+) -> Result<CowStr<'t, A>, AllocError>
+    ensures bytes { IfOk result (λ c. cow_str_bytes c ≡ shown_bytes shown.entry) }
+    ensures borrowed { IfOk result (λ c. IsBorrowedStr c ↔ IsLent shown.entry) }
+    ensures takes_no_memory { IsLent shown.entry → IsOk result }
+{
+    let Shown {
+        text,
+        ending,
+        tail,
+        missing,
+        alignment,
+    } = shown;
+    write_shown(alloc, text, &ending, tail, missing, alignment)
+}
+
 /// A text between the missing blanks, with what ends its pen and a tail after it.
 pub(crate) fn write_shown<'t, A: Allocator>(
     alloc: A,
@@ -425,40 +506,67 @@ pub fn pad<'t, A: Allocator + Copy>(
     ensures takes_no_memory { (cell text.now ≡ text.now)
         × (missing (cell text.now) width ≡ 0) × (closing (cell text.now) ≡ []) → IsOk result }
 {
-    if let Some(plain) = plain_cell(text, width) {
-        let ending = Ending {
-            link_end: "",
-            style: plain.style,
-        };
-        let text = CowStr::Borrowed(text);
-        return write_shown(alloc, text, &ending, "", plain.left, alignment);
+    let shown = pad_shown(alloc, text, width, alignment)?;
+    join(alloc, shown)
+}
+
+/// Like [`pad`], not joined yet.
+///
+/// ```
+/// let padded = pad_shown(rt.alloc(), "\x1b[31m日本", 6, Alignment::Right)?;
+/// assert!(rt; padded.missing == 2);
+/// assert!(rt; join(rt.alloc(), padded)?.as_str() == "  \x1b[31m日本\x1b[39m");
+/// ```
+#[inline(always)]
+pub fn pad_shown<'t, A: Allocator + Copy>(
+    alloc: A,
+    text: &'t str,
+    width: usize,
+    alignment: Alignment,
+) -> Result<Shown<'t, 't, A>, AllocError>
+    ensures bytes { IfOk result (λ s. shown_bytes s ≡ padded (cell text.now) width alignment) }
+    ensures borrowed { IfOk result (λ s. IsLent s ↔ ((cell text.now ≡ text.now)
+        × (missing (cell text.now) width ≡ 0) × (closing (cell text.now) ≡ []))) }
+    ensures takes_no_memory { cell text.now ≡ text.now → IsOk result }
+{
+    if let Some(plain) = plain_cell(text, usize::MAX) {
+        return Ok(Shown {
+            text: CowStr::Borrowed(text),
+            ending: Ending {
+                link_end: "",
+                style: plain.style,
+            },
+            tail: "",
+            missing: width.saturating_sub(usize::MAX - plain.left),
+            alignment,
+        });
     }
     let (cell, ending) = cell_and_ending(alloc, text)?;
-    pad_cell(alloc, cell, &ending, width, alignment)
+    Ok(pad_cell(cell, ending, width, alignment))
 }
 
 /// The text of a cell, padded. This ends its pen.
-pub(crate) fn pad_cell<'t, A: Allocator>(
-    alloc: A,
+pub(crate) fn pad_cell<'t, 'a, A: Allocator>(
     cell: CowStr<'t, A>,
-    ending: &Ending,
+    ending: Ending,
     width: usize,
     alignment: Alignment,
-) -> Result<CowStr<'t, A>, AllocError>
-    requires { ending.now.link_end.now ++ close (rendition_of ending.now.style)
+) -> Shown<'t, 'a, A>
+    requires { ending.link_end.now ++ close (rendition_of ending.style)
         ≡ closing (cow_str_bytes cell) }
-    ensures bytes { IfOk result (λ c.
-        cow_str_bytes c ≡ padded (cow_str_bytes cell.entry) width alignment) }
-    ensures borrowed { IfOk result (λ c. IsBorrowedStr c ↔ (IsBorrowedStr cell.entry
+    ensures bytes { shown_bytes result ≡ padded (cow_str_bytes cell.entry) width alignment }
+    ensures borrowed { IsLent result ↔ (IsBorrowedStr cell.entry
         × (missing (cow_str_bytes cell.entry) width ≡ 0)
-        × (closing (cow_str_bytes cell.entry) ≡ []))) }
-    ensures len { IfOk result (λ c. length (cow_str_bytes c) ≤ length (cow_str_bytes cell.entry)
-        + missing (cow_str_bytes cell.entry) width + longest_link_end + longest_close) }
-    ensures takes_no_memory { (missing (cow_str_bytes cell.entry) width ≡ 0)
-        × (closing (cow_str_bytes cell.entry) ≡ []) → IsOk result }
+        × (closing (cow_str_bytes cell.entry) ≡ [])) }
 {
     let missing = width.saturating_sub(widths::width(cell.as_str(), View::Given));
-    write_shown(alloc, cell, ending, "", missing, alignment)
+    Shown {
+        text: cell,
+        ending,
+        tail: "",
+        missing,
+        alignment,
+    }
 }
 
 impl Alignment {
@@ -466,7 +574,11 @@ impl Alignment {
     ghost use Rattle.ansi_columns.specs.Shown.{before_text};
 
     /// How many of the blanks come before the text.
-    fn before_text(self, blanks: usize) -> usize
+    ///
+    /// ```
+    /// assert!(rt; Alignment::Center.before_text(5) == 2);
+    /// ```
+    pub fn before_text(self, blanks: usize) -> usize
         ensures count { result ≡ before_text self blanks }
         ensures within { result ≤ blanks }
     {

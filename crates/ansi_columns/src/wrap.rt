@@ -1,11 +1,13 @@
 //! The lines of a wrapped text, ready for display. Each line opens the style and link carried into
 //! it, and closes them.
-ghost use Rattle.std.specs.Prelude.{◌≡◌, ◌↔◌, [], false, map, All, IsTrue, IsFalse};
+ghost use Rattle.std.specs.Prelude.{◌≡◌, ◌↔◌, [], ◌∷◌, ◌++◌, true, false, map, All, IsTrue, IsFalse};
 ghost use Rattle.std.specs.Prelude.{IfOk, IfSome, IfNone, string_bytes};
 ghost use Rattle.std.specs.Cow.{cow_str_bytes};
 ghost use Rattle.std.specs.List.{list_all};
 ghost use Rattle.std.specs.Str.{IsUtf8};
 ghost use Rattle.ansi_items.specs.Plain.{has_escape};
+ghost use Rattle.ansi_style.specs.States.{rendition_of};
+ghost use Rattle.ansi_style.specs.Written.{close};
 ghost use Rattle.ansi_safe.specs.Cells.{paragraph};
 ghost use Rattle.ansi_safe.specs.Links.{IsClosed};
 ghost use Rattle.ansi_safe.specs.Safe.{is_safe};
@@ -23,6 +25,7 @@ pub(crate) mod spans;
 use crate::wrap::spans::Spans;
 use ansi_safe::cells::paragraph_of;
 pub use ansi_split::split::PushNext;
+use ansi_style::state::Style;
 use std::alloc::{AllocError, Allocator, Global};
 use std::borrow::CowStr;
 use std::marker::Model;
@@ -82,7 +85,15 @@ pub fn wrap<'t, A: Allocator + Copy>(alloc: A, text: &'t str, width: usize) -> A
     ensures takes_no_memory { paragraph text.now ≡ text.now → IsFalse (has_escape text.now) →
         IsTrue (list_all (λ l. l.borrowed) result) }
 {
+    wrapped_lines(alloc, text, width)
+}
+
+/// The lines of a text.
+fn wrapped_lines<'t, A: Allocator + Copy>(alloc: A, text: &'t str, width: usize) -> AnsiWrap<'t, A>
+    ensures { result ≡ wrapped text.now width }
+{
     match paragraph_of(alloc, text) {
+        Ok(CowStr::Borrowed(text)) => AnsiWrap::lent(alloc, text, Spans::of(text, width)),
         Ok(paragraph) => AnsiWrap::over(alloc, paragraph, None, width),
         Err(e) => AnsiWrap::over(alloc, CowStr::Borrowed(text), Some(e), width),
     }
@@ -144,6 +155,19 @@ impl<'t, A: Allocator + Copy> AnsiWrap<'t, A> {
             text,
             failure,
             spans: Spans::new(width),
+        }
+    }
+
+    /// The lines of the caller's text that these spans have left.
+    fn lent(alloc: A, text: &'t str, spans: Spans) -> Self
+        requires { AreSpans text.now spans }
+        ensures { result ≡ lent_lines true (span_lines text.now spans) }
+    {
+        AnsiWrap {
+            alloc,
+            text: CowStr::Borrowed(text),
+            failure: None,
+            spans,
         }
     }
 
@@ -211,6 +235,26 @@ pub fn has_next<A: Allocator>(lines: &AnsiWrap<'_, A>) -> bool
 {
     // Until its failure is returned, it has spans left.
     lines.spans.has_next()
+}
+
+/// The text and the style at its end, if the only line that is left is known to be all of the text,
+/// which needs nothing but that style's close. `None` says nothing. Doesn't allocate. (Own.)
+///
+/// ```
+/// let lines = wrap(rt.alloc(), "\x1b[1mlion", 5);
+/// assert!(rt; matches!(only_line(&lines), Some((text, style)) if text.len() == 8 && style.is_bold()));
+/// ```
+pub fn only_line<'t, A: Allocator>(lines: &AnsiWrap<'t, A>) -> Option<(&'t str, Style)>
+    ensures { IfSome result (λ (text, style). map (λ l. l.bytes) lines.now
+        ≡ (text.now ++ close (rendition_of style)) ∷ []) }
+{
+    let None = &lines.failure else {
+        return None;
+    };
+    match &lines.text {
+        CowStr::Borrowed(text) => Some((*text, lines.spans.only_style()?)),
+        CowStr::Owned(_) => None,
+    }
 }
 
 /// The next line of the caller's text.

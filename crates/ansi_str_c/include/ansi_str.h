@@ -989,7 +989,7 @@ static inline ansi_str_answer ansi_str_column_of(const char *text, size_t text_l
    "\x1b[2J~" is "~", and what it leaves open is closed. A tail wider than `width` is left out. The link and then the style
    still open at the end of the text are closed before the tail. The result is at most
    tail_len + 2 * (ANSI_STR_LONGEST_LINK_END + ANSI_STR_LONGEST_CLOSE) bytes longer than the text. ANSI_STR_NOT_UTF8: the text
-   or the tail isn't UTF-8. Allocates if it changes the text or the tail, or writes something after what stays of the text.
+   or the tail isn't UTF-8. May allocate if it changes the text or the tail, or writes something after what stays of it.
    "\x1b[31mabcdef\x1b[39m" in 4 columns with "..." gives "\x1b[31ma\x1b[39m...". */
 static inline ansi_str_answer ansi_str_truncate(const char *text, size_t text_len, size_t width, const char *tail,
                                                 size_t tail_len, char *buffer, size_t buffer_len) {
@@ -1001,7 +1001,7 @@ static inline ansi_str_answer ansi_str_truncate(const char *text, size_t text_le
    odd, ANSI_STR_CENTER puts one more after the text. The link (OSC 8) and then the style still open at the end of the text
    are closed before the blanks. A text at least as wide gets no blanks. The result is at most width +
    ANSI_STR_LONGEST_LINK_END + ANSI_STR_LONGEST_CLOSE bytes longer than the text. ANSI_STR_REFUSED: there is no such
-   alignment. Allocates if it changes the text, writes blanks or closes something.
+   alignment. May allocate if it changes the text, writes blanks or closes something.
    "\x1b[41mab" in 5 columns with ANSI_STR_CENTER gives " \x1b[41mab\x1b[49m  ". */
 static inline ansi_str_answer ansi_str_pad(const char *text, size_t text_len, size_t width, uint32_t alignment,
                                            char *buffer, size_t buffer_len) {

@@ -1,20 +1,17 @@
 //! The stretches of a text from which the lines of a wrap are written.
 ghost use Rattle.std.specs.Prelude.{◌≡◌, ◌+◌, ◌++◌, ◌≤◌, ℕ, List, [], length, IsTrue, IsFalse, IsOk};
-ghost use Rattle.std.specs.Prelude.{IfOk, IfSome, OnOk, OnErr, ◌∷◌, string_bytes};
+ghost use Rattle.std.specs.Prelude.{IfOk, IfSome, OnOk, OnErr, ◌∷◌, string_bytes, map};
 ghost use Rattle.std.specs.Iterator.{YieldsFirst};
 ghost use Rattle.std.specs.Option.{MatchOption};
-ghost use Rattle.ansi_items.specs.Plain.{plain, marks};
-ghost use Rattle.ansi_style.specs.Rendition.{plain_style};
+ghost use Rattle.ansi_style.specs.States.{rendition_of};
 ghost use Rattle.ansi_style.specs.Writing.{KeepsText};
-ghost use Rattle.ansi_style.specs.Written.{longest_start_and_close};
+ghost use Rattle.ansi_style.specs.Written.{close, longest_start_and_close};
 ghost use Rattle.ansi_safe.specs.Links.{longest_link_end};
 ghost use Rattle.ansi_split.specs.Splits.{IsCarriedPart};
-ghost use Rattle.ansi_columns.specs.Columns.{clusters};
-ghost use Rattle.ansi_columns.specs.Lines.{lines_from};
-ghost use Rattle.ansi_columns.specs.Wrapped.{lines_over, IsTaken};
+ghost use Rattle.ansi_columns.specs.Wrapped.{IsTaken};
 ghost use Rattle.ansi_columns.specs.WrapStates.{span_lines, lines_after, lines_of, HasNext};
-ghost use Rattle.ansi_columns.specs.WrapStates.{AreSpans, IsCharRange};
-ghost use Rattle.ansi_columns.specs.declared.wrap.spans.Next.TheVariants.{At};
+ghost use Rattle.ansi_columns.specs.WrapStates.{AreNew, AreSpans, IsCharRange, IsOnlyLine};
+ghost use Rattle.ansi_columns.specs.declared.wrap.spans.Next.TheVariants.{First, At};
 
 use crate::lines::first_line;
 use crate::plain_cells::plain_cell;
@@ -24,6 +21,7 @@ use crate::wrap::pens::PenAt;
 use ansi_safe::links::{Pen, plain_pen};
 use ansi_search::search::PAST_THE_END;
 use ansi_slice::slice::{has_any, push_sequences};
+use ansi_style::state::Style;
 use ansi_style::styles;
 use std::alloc::{AllocError, Allocator};
 use std::borrow::CowStr;
@@ -171,10 +169,52 @@ pub(crate) struct Spans {
 enum Next {
     /// The first line. Nothing has been read.
     First,
+    /// The only line.
+    Only(OnlyLine),
     /// The line that begins at a walk.
     At(Walk),
     /// No line is left.
     Nothing,
+}
+
+/// A line that is all of a text, which is printable ASCII and select graphic renditions alone.
+#[derive(Clone, Copy)]
+pub(crate) struct OnlyLine {
+    /// The number of its plain bytes.
+    len: usize,
+    /// The style at its end. No link is open there.
+    style: Style,
+}
+
+impl OnlyLine {
+    ghost use Rattle.std.specs.Prelude.{◌≡◌, ◌∷◌, [], ℕ};
+    ghost use Rattle.ansi_style.specs.Rendition.{plain_style};
+    ghost use Rattle.ansi_items.specs.Plain.{plain, marks};
+    ghost use Rattle.ansi_columns.specs.Columns.{clusters};
+    ghost use Rattle.ansi_columns.specs.Lines.{lines_from};
+    ghost use Rattle.ansi_columns.specs.Wrapped.{lines_over};
+    ghost use Rattle.ansi_columns.specs.WrapStates.{IsOnlyLine};
+
+    /// The span of the line.
+    fn span<'t>(self, text: &'t str) -> Span<'t>
+        requires { (width : ℕ) × IsOnlyLine text.now width self }
+        ensures { (width : ℕ) → IsOnlyLine text.now width self →
+            lines_over plain_style [] (plain text.now) (marks text.now)
+            (lines_from width 0 0 0 0 (clusters (plain text.now))) ≡ result ∷ [] }
+    {
+        Span {
+            text,
+            is_marked: self.len != text.len(),
+            start: 0,
+            end: self.len,
+            end_offset: text.len(),
+            carried: plain_pen(),
+            after: Pen {
+                style: self.style,
+                link: "",
+            },
+        }
+    }
 }
 
 impl Spans {
@@ -184,12 +224,46 @@ impl Spans {
         ensures some { HasNext result.next }
         ensures lines { (t : List ℕ) → span_lines t result ≡ lines_of t width }
     {
+        Spans::begin(width.max(1), Next::First)
+    }
+
+    /// The spans of all lines of a text, the only one or the first one of which is sought at once.
+    #[inline(never)]
+    pub(crate) fn of(text: &str, width: usize) -> Self
+        ensures spans { AreSpans text.now result }
+        ensures lines { span_lines text.now result ≡ lines_of text.now width }
+    {
+        let width = width.max(1);
+        match only_line(text, width) {
+            Some(line) => Spans::begin(width, Next::Only(line)),
+            None => Spans::begin(width, Next::At(Walk::start(text))),
+        }
+    }
+
+    /// Spans of which none is taken.
+    #[inline(always)]
+    fn begin(width: usize, next: Next) -> Self
+        ensures width { result.width ≡ width }
+        ensures next { result.next ≡ next }
+        ensures new { AreNew result }
+    {
         Spans {
-            width: width.max(1),
-            next: Next::First,
+            width,
+            next,
             taken: 0,
             before: 0,
             pen: PenAt::plain(),
+        }
+    }
+
+    /// The style at the end of the text, if the next line is known to be all of it.
+    pub(crate) fn only_style(&self) -> Option<Style>
+        ensures { (t : List ℕ) → AreSpans t self.now → IfSome result (λ style.
+            map (λ l. l.bytes) (span_lines t self.now) ≡ (t ++ close (rendition_of style)) ∷ []) }
+    {
+        match &self.next {
+            Next::Only(line) => Some(line.style),
+            _ => None,
         }
     }
 
@@ -218,13 +292,27 @@ impl Spans {
         match self.next {
             Next::Nothing => None,
             Next::At(from) => Some(self.line_at(text, from)),
-            Next::First => match only_line(text, self.width) {
-                Some(line) => {
-                    self.finish();
-                    Some(line)
-                }
-                None => Some(self.line_at(text, Walk::start(text))),
-            },
+            Next::Only(line) => {
+                self.finish();
+                Some(line.span(text))
+            }
+            Next::First => Some(self.first(text)),
+        }
+    }
+
+    /// The span of the first line. (Not inlined: `next` has a copy of `line_at` already.)
+    #[inline(never)]
+    fn first<'t>(&mut self, text: &'t str) -> Span<'t>
+        requires { AreNew self.old }
+        ensures spans { AreSpans text.now self.new }
+        ensures lines { lines_after text.now self.old First ≡ result ∷ span_lines text.now self.new }
+    {
+        match only_line(text, self.width) {
+            Some(line) => {
+                self.finish();
+                line.span(text)
+            }
+            None => self.line_at(text, Walk::start(text)),
         }
     }
 
@@ -267,27 +355,17 @@ impl Spans {
     }
 }
 
-/// The span of the only line of a text, if that is printable ASCII and select graphic renditions
-/// alone, fits, and doesn't end with a blank. `None` says nothing.
-fn only_line(text: &str, width: usize) -> Option<Span<'_>>
-    ensures { IfSome result (λ line. lines_over plain_style [] (plain text.now) (marks text.now)
-        (lines_from width 0 0 0 0 (clusters (plain text.now))) ≡ line ∷ []) }
+/// The only line of a text, if that is printable ASCII and select graphic renditions alone, fits, and
+/// doesn't end with a blank. `None` says nothing.
+fn only_line(text: &str, width: usize) -> Option<OnlyLine>
+    ensures { IfSome result (IsOnlyLine text.now width) }
 {
     let plain = plain_cell(text, width)?;
     if plain.last == b' ' {
         return None;
     }
-    let end = width - plain.left;
-    Some(Span {
-        text,
-        is_marked: end != text.len(),
-        start: 0,
-        end,
-        end_offset: text.len(),
-        carried: plain_pen(),
-        after: Pen {
-            style: plain.style,
-            link: "",
-        },
+    Some(OnlyLine {
+        len: width - plain.left,
+        style: plain.style,
     })
 }

@@ -1,14 +1,14 @@
 //! The examples of the docs of `ansi_columns`, in the same words.
 use ansi_columns::addresses::link_at;
 use ansi_columns::edits::{edit_and_wrap, edit_columns};
-use ansi_columns::fit::fit;
+use ansi_columns::fit::{fit, fit_shown};
 use ansi_columns::lines::Lines;
-use ansi_columns::shown::{pad, truncate};
+use ansi_columns::shown::{closed_cell, join, pad, pad_shown, truncate, truncate_shown};
 use ansi_columns::sides::truncate_with;
 use ansi_columns::slices::slice;
 use ansi_columns::tabs::expand_tabs;
 use ansi_columns::wrap::indents::wrap_with;
-use ansi_columns::wrap::{has_next, wrap};
+use ansi_columns::wrap::{has_next, only_line, wrap};
 use ansi_columns::{Alignment, AnsiColumns, ColumnEdit, Side, Truncation, Wrap};
 use std::test::Fail;
 
@@ -179,6 +179,54 @@ fn pad_example(rt: HostRuntime) -> Result<(), Fail> {
 }
 
 #[test]
+fn shown_example(rt: HostRuntime) -> Result<(), Fail> {
+    let padded = pad_shown(rt.alloc(), "ab", 4, Alignment::Left)?;
+    assert!(rt; padded.text.as_str() == "ab" && padded.missing == 2);
+    Ok(())
+}
+
+#[test]
+fn join_example(rt: HostRuntime) -> Result<(), Fail> {
+    let padded = pad_shown(rt.alloc(), "ab", 4, Alignment::Center)?;
+    assert!(rt; join(rt.alloc(), padded)?.as_str() == " ab ");
+    Ok(())
+}
+
+#[test]
+fn pad_shown_example(rt: HostRuntime) -> Result<(), Fail> {
+    let padded = pad_shown(rt.alloc(), "\x1b[31m日本", 6, Alignment::Right)?;
+    assert!(rt; padded.missing == 2);
+    assert!(rt; join(rt.alloc(), padded)?.as_str() == "  \x1b[31m日本\x1b[39m");
+    Ok(())
+}
+
+#[test]
+fn truncate_shown_example(rt: HostRuntime) -> Result<(), Fail> {
+    let cut = truncate_shown(rt.alloc(), "\x1b[31m日本語\x1b[39m", 5, "…")?;
+    assert!(rt; cut.tail == "…");
+    assert!(rt; join(rt.alloc(), cut)?.as_str() == "\x1b[31m日本\x1b[39m…");
+    Ok(())
+}
+
+#[test]
+fn fit_shown_example(rt: HostRuntime) -> Result<(), Fail> {
+    let cell = fit_shown(rt.alloc(), "\x1b[31m日本語\x1b[39m", 4, Alignment::Right, "…")?;
+    assert!(rt; cell.missing == 1 && cell.tail == "…");
+    Ok(())
+}
+
+#[test]
+fn closed_cell_example(rt: HostRuntime) -> Result<(), Fail> {
+    assert!(rt; closed_cell(rt.alloc(), "\x1b[1m~\x07")?.as_str() == "\x1b[1m~\x1b[22m");
+    Ok(())
+}
+
+#[test]
+fn before_text_example(rt: HostRuntime) {
+    assert!(rt; Alignment::Center.before_text(5) == 2);
+}
+
+#[test]
 fn slice_example(rt: HostRuntime) -> Result<(), Fail> {
     let part = slice(rt.alloc(), "\x1b[31m日本語\x1b[39m", 1, Some(4))?;
     assert!(rt; part.as_str() == "\x1b[31m 本\x1b[39m");
@@ -237,6 +285,15 @@ fn has_next_example(rt: HostRuntime) -> Result<(), Fail> {
     assert!(rt; has_next(&lines));
     assert!(rt; matches!(&lines.next(), Some(Ok(_))));
     assert!(rt; !has_next(&lines));
+    Ok(())
+}
+
+#[test]
+fn only_line_example(rt: HostRuntime) -> Result<(), Fail> {
+    let lines = wrap(rt.alloc(), "\x1b[1mlion", 5);
+    assert!(rt;
+        matches!(only_line(&lines), Some((text, style)) if text.len() == 8 && style.is_bold())
+    );
     Ok(())
 }
 

@@ -33,14 +33,26 @@ pub returns-then-is_bare_paragraph : goal.returns-then-is_bare_paragraph
 unfolding GivesWrapped
 returns-then-is_bare_paragraph g c = search rules
 
--- and those of any other text, or the call runs out of memory
-pub returns : goal.returns
+-- the only line of another text is too
+
+pub returns-in-Some : goal.returns-in-Some
 unfolding GivesWrapped
-returns g c =
+returns-in-Some g c =
+    let t = c.in-Ok.text.now in
+    let takes = has_escape t || not (bytes_eq (paragraph t) t) in
+    let gives = subst (λ (ts : List (List ℕ)). GivesAll takes (joined_texts ts) (ends_from 0 ts) c.in-Some.answer c.args.buffer.now c.write_only.new.buffer c.args.ends.now c.write_only.new.ends)
+    (ap (map (λ (l : CarriedPart). l.bytes)) c.wrap-lines.ensures.lines)
+    (inl c.in-Some.ensures.some) in
+    inl (c.in-Ok.ensures.1, rw c.in-Ok.ensures.0 at gives)
+
+-- and those of any other one, or the call runs out of memory
+pub returns-in-None : goal.returns-in-None
+unfolding GivesWrapped
+returns-in-None g c =
     let t = c.in-Ok.text.now in
     let takes = has_escape t || not (bytes_eq (paragraph t) t) in
     let some : takes ≡ true = one-of takes (sym c.if-is_bare_paragraph.false ∙ c.is_bare_paragraph.ensures) in
     let gives = subst (λ (ts : List (List ℕ)). GivesAll takes (joined_texts ts) (ends_from 0 ts) c.write_texts.result c.args.buffer.now c.write_texts.new.buffer c.args.ends.now c.write_texts.new.ends)
-    (ap (map (λ (l : CarriedPart). l.bytes)) c.wrap.ensures.lines)
-    (rw some c.write_texts.ensures) in
+    (ap (map (λ (l : CarriedPart). l.bytes)) c.wrap-lines.ensures.lines)
+    (rw some (rw (c.in-None.ensures.none.0, c.in-None.ensures.none.1) at c.write_texts.ensures)) in
     inl (c.in-Ok.ensures.1, rw c.in-Ok.ensures.0 at gives)

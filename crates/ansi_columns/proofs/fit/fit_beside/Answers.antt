@@ -1,56 +1,21 @@
-use Rattle.std.proofs.Common.{◌≡◌, ℕ, ◌+◌, ◌≤◌, List, [], ◌++◌, length, IfSome, refl, sym, ◌∙◌, ap, subst, append-nil, arith}
-use Rattle.std.specs.Cow.{cow_str_bytes}
+use Rattle.std.proofs.Common.{length, ap, ◌∙◌, arith}
+use Rattle.std.proofs.lemmas.Bool.{false≢true}
 use Rattle.std.proofs.lemmas.Result.{IfOk-weaker}
-use Rattle.ansi_safe.specs.Cells.{cell}
-use Rattle.ansi_style.specs.States.{rendition_of}
-use Rattle.ansi_style.specs.Written.{close, longest_close}
-use Rattle.ansi_safe.specs.Links.{longest_link_end}
-use Rattle.ansi_columns.specs.Shown.{truncated, missing, closing}
-use Rattle.ansi_columns.proofs.MissingLemmas.{IsLack}
-use Rattle.ansi_columns.proofs.ShownLemmas.{ending-closing, between-none, padded-between, length-between}
 use Rattle.ansi_columns.proofs.fit.fit_beside.Goals as goal
 
--- what is missing is known
-pub returns-in-Some-clause-bytes : goal.returns-in-Some-clause-bytes
-returns-in-Some-clause-bytes g c =
-    let t = truncated (cell c.args.text.now) c.args.width c.args.tail.now in
-    let known : IsLack (cell c.args.text.now) c.args.width c.args.tail.now c.in-Some.missing = subst (λ o. IfSome o (IsLack (cell c.args.text.now) c.args.width c.args.tail.now)) c.in-Some.is c.in_ok-front.ensures.missing in
-    let is = padded-between t c.args.width c.args.alignment (c.in_ok-front.ensures.bytes ∙ sym (append-nil t) ∙ ap (λ u. t ++ u) (sym known.1)) known.0 in
-    IfOk-weaker c.write_shown.result _ _ (λ s written. written ∙ is) c.write_shown.ensures.bytes
-
-pub returns-in-Some-clause-len : goal.returns-in-Some-clause-len
-returns-in-Some-clause-len g c =
-    let known : IsLack (cell c.args.text.now) c.args.width c.args.tail.now c.in-Some.missing = subst (λ o. IfSome o (IsLack (cell c.args.text.now) c.args.width c.args.tail.now)) c.in-Some.is c.in_ok-front.ensures.missing in
-    let parts = c.in_ok-front.field-0 in
-    let u = (cow_str_bytes parts.front ++ (parts.ending.link_end.now ++ close (rendition_of parts.ending.style))) ++ parts.tail.now in
-    let most : length u ≤ length c.args.text.now + length c.args.tail.now + longest_link_end + longest_close = c.in_ok-front.ensures.len in
-    let lack : c.in-Some.missing ≡ missing (truncated (cell c.args.text.now) c.args.width c.args.tail.now) c.args.width = known.0 in
-    IfOk-weaker c.write_shown.result _ _ (λ s written.
-    let size : length (cow_str_bytes s) ≡ length u + c.in-Some.missing = ap length written ∙ length-between c.in-Some.missing c.args.alignment u in
-    omega (arith, size, most, lack)) c.write_shown.ensures.bytes
-
--- what is cut is measured
-pub pad_cell-requires : goal.pad_cell-requires
-pad_cell-requires g c =
-    let pen = c.pen_after.ensures in
-    ending-closing c.as_str.ensures.value pen.style pen.link c.ending-ending.ensures.link_end (ap rendition_of c.ending-ending.ensures.style)
+pub returns-clause-bytes : goal.returns-clause-bytes
+returns-clause-bytes g c = IfOk-weaker c.join.result _ _ (λ s is. is ∙ c.in_ok-shown.ensures.bytes) c.join.ensures.bytes
 
 pub returns-clause-borrowed : goal.returns-clause-borrowed
 returns-clause-borrowed g c =
-    let full : List ℕ → Type 0 = λ t. missing t c.args.width ≡ 0 in
-    let closed : List ℕ → Type 0 = λ t. closing t ≡ [] in
-    let parts = c.in_ok-front.ensures in
-    let same = c.in_ok-cut.ensures.bytes ∙ between-none c.args.alignment _ ∙ parts.bytes in
-    let cut = c.in_ok-cut.ensures.borrowed in
-    IfOk-weaker c.pad_cell.result _ _ (λ s iff. (
-      λ b. (parts.borrowed.0 (cut.0 (iff.0 b).0).0, sym parts.ending ∙ (cut.0 (iff.0 b).0).1, subst full same (iff.0 b).1, subst closed same (iff.0 b).2),
-      λ all. iff.1 (cut.1 (parts.borrowed.1 all.0, parts.ending ∙ all.1, refl), subst full (sym same) all.2, subst closed (sym same) all.3),
-    )) c.pad_cell.ensures.borrowed
+    let both = c.in_ok-shown.ensures.borrowed in
+    IfOk-weaker c.join.result _ _ (λ s iff. (λ b. both.0 (iff.0 b), λ all. iff.1 (both.1 all))) c.join.ensures.borrowed
+
+pub returns-clause-len : goal.returns-clause-len
+returns-clause-len g c = IfOk-weaker c.join.result _ _ (λ s is. omega (arith, ap length is, c.in_ok-shown.ensures.len)) c.join.ensures.bytes
 
 pub returns-clause-takes_no_memory : goal.returns-clause-takes_no_memory
-returns-clause-takes_no_memory g c =
-    let full : List ℕ → Type 0 = λ t. missing t c.args.width ≡ 0 in
-    let closed : List ℕ → Type 0 = λ t. closing t ≡ [] in
-    let parts = c.in_ok-front.ensures in
-    let same = c.in_ok-cut.ensures.bytes ∙ between-none c.args.alignment _ ∙ parts.bytes in
-    λ all. c.pad_cell.ensures.takes_no_memory (subst full (sym same) all.2, subst closed (sym same) all.3)
+returns-clause-takes_no_memory g c = λ all. c.join.ensures.takes_no_memory (c.in_ok-shown.ensures.borrowed.1 all)
+
+pub returns-in_err-shown-clause-takes_no_memory : goal.returns-in_err-shown-clause-takes_no_memory
+returns-in_err-shown-clause-takes_no_memory g c = λ all. absurd (false≢true (rw c.in_err-shown.was at (c.fit_shown.ensures.takes_no_memory (all.0, all.1))))

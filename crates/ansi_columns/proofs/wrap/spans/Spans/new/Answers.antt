@@ -1,24 +1,21 @@
-use Rattle.std.proofs.Common.{◌≡◌, ◌∙◌, ap₂, [], refl, slice_range}
-use Rattle.ansi_items.specs.Plain.{plain}
+use Rattle.std.proofs.Common.{[], sym, ◌∙◌, ap, subst}
+use Rattle.ansi_items.specs.Plain.{plain, marks}
 use Rattle.ansi_style.specs.Rendition.{plain_style}
 use Rattle.ansi_columns.specs.Columns.{clusters}
 use Rattle.ansi_columns.specs.Lines.{lines_from}
-use Rattle.ansi_columns.specs.Wrapped.{lines_over, marks_left}
-use Rattle.ansi_columns.proofs.WrapLemmas.{marks_left-start}
+use Rattle.ansi_columns.specs.Wrapped.{lines_over}
+use Rattle.ansi_columns.specs.WrapStates.{lines_next, HasNext, AreSpansAt}
+use Rattle.ansi_columns.proofs.LentLemmas.{new-lines}
 use Rattle.ansi_columns.proofs.wrap.spans.Spans.new.Goals as goal
 
 pub returns-clause-spans : goal.returns-clause-spans
-returns-clause-spans c = λ t. record {
-  before = refl;
-  taken = refl;
-  style = c.plain.ensures.style;
-  link_start = c.plain.ensures.start;
-  link_end = c.plain.ensures.end;
-}
+returns-clause-spans c = λ t. (let s = c.begin.result in subst (AreSpansAt t s) (sym c.begin.ensures.next) c.begin.ensures.new)
+
+pub returns-clause-some : goal.returns-clause-some
+returns-clause-some c = subst HasNext (sym c.begin.ensures.next) tt
 
 -- nothing is carried, and all marks and lines are left
 pub returns-clause-lines : goal.returns-clause-lines
 returns-clause-lines c t =
-    let link : slice_range t c.plain.result.link_start c.plain.result.link_end ≡ [] = ap₂ (slice_range t) c.plain.ensures.start c.plain.ensures.end in
-    ap₂ (λ s l. lines_over s l (plain t) (marks_left t 0 0) (lines_from c.max.result 0 0 0 0 (clusters (plain t)))) c.plain.ensures.style link
-    ∙ ap₂ (λ ms w. lines_over plain_style [] (plain t) ms (lines_from w 0 0 0 0 (clusters (plain t)))) (marks_left-start t) c.max.ensures
+    let s = c.begin.result in
+    new-lines t s s.next (ap (lines_next t s.width) c.begin.ensures.next) c.begin.ensures.new ∙ ap (λ w. lines_over plain_style [] (plain t) (marks t) (lines_from w 0 0 0 0 (clusters (plain t)))) (c.begin.ensures.width ∙ c.max.ensures)

@@ -1,44 +1,29 @@
-use Rattle.std.proofs.Common.{◌∷◌, inl, sym, ◌∙◌, ap, arith}
-use Rattle.std.proofs.lemmas.Str.{IsCharBoundary-start}
-use Rattle.ansi_items.specs.Plain.{plain}
-use Rattle.ansi_style.specs.States.{rendition_of}
-use Rattle.ansi_columns.specs.Wrapped.{lines_over, marks_left}
-use Rattle.ansi_columns.specs.WrapStates.{open_link, lines_after, AreNew}
+use Rattle.std.proofs.Common.{◌∷◌, sym, ◌∙◌, ap}
+use Rattle.ansi_columns.specs.WrapStates.{lines_next, lines_after}
 use Rattle.ansi_columns.proofs.LentLemmas.{none-left, new-lines}
-use Rattle.ansi_columns.proofs.WrapLemmas.{lines_left-start}
 use Rattle.ansi_columns.proofs.wrap.spans.Spans.next.Goals as goal
 
 pub returns-in-Nothing-clause-lines : goal.returns-in-Nothing-clause-lines
 returns-in-Nothing-clause-lines c = (let none = none-left c.args.text.now c.args.self.now c.in-Nothing.is in (none, none))
 
--- the first line is the only one
+-- the only line
 
-pub returns-in-Some-clause-spans : goal.returns-in-Some-clause-spans
-returns-in-Some-clause-spans c = c.finish.ensures.spans c.args.text.now
+pub span-requires : goal.span-requires
+span-requires c = (let are = rw c.in-Only.is at c.requires in (c.args.self.now.width, are.1))
 
-pub returns-in-Some-clause-lines : goal.returns-in-Some-clause-lines
-returns-in-Some-clause-lines c =
+pub returns-in-Only-clause-spans : goal.returns-in-Only-clause-spans
+returns-in-Only-clause-spans c = c.finish.ensures.spans c.args.text.now
+
+pub returns-in-Only-clause-lines : goal.returns-in-Only-clause-lines
+returns-in-Only-clause-lines c =
     let t = c.args.text.now in
-    let new : AreNew c.args.self.now = rw c.in-First.is at c.requires in
-    new-lines t c.args.self.now c.in-First.is new ∙ c.in-Some.ensures ∙ ap (λ ls. c.in-Some.line ∷ ls) (sym (c.finish.ensures.lines t))
+    let are = rw c.in-Only.is at c.requires in
+    new-lines t c.args.self.now c.args.self.now.next (ap (lines_next t c.args.self.now.width) c.in-Only.is) are.0 ∙ c.span.ensures c.args.self.now.width are.1 ∙ ap (λ ls. c.span.result ∷ ls) (sym (c.finish.ensures.lines t))
 
--- or it is read
+-- the first line
 
-pub line_at-requires-in-None-clause-walk : goal.line_at-requires-in-None-clause-walk
-line_at-requires-in-None-clause-walk c =
-    let new : AreNew c.args.self.now = rw c.in-First.is at c.requires in
-    record { is_walk = c.start.ensures.walk; place = inl (new.before, new.taken); boundary = rw new.taken (IsCharBoundary-start c.args.text.now c.utf8.text); ordered = omega (arith, new.before) }
+pub first-requires : goal.first-requires
+first-requires c = rw c.in-First.is at c.requires
 
-pub line_at-requires-in-None-clause-link : goal.line_at-requires-in-None-clause-link
-line_at-requires-in-None-clause-link c =
-    let new : AreNew c.args.self.now = rw c.in-First.is at c.requires in
-    let start = IsCharBoundary-start c.args.text.now c.utf8.text in
-    record { ordered = omega (arith, new.link_start, new.link_end); start_boundary = rw new.link_start start; end_boundary = rw new.link_end start }
-
-pub returns-in-None-clause-lines : goal.returns-in-None-clause-lines
-returns-in-None-clause-lines c =
-    let t = c.args.text.now in
-    let s = c.args.self.now in
-    ap (lines_after t s) c.in-First.is
-    ∙ ap (lines_over (rendition_of s.pen.style) (open_link t s.pen) (plain t) (marks_left t s.before s.taken)) (sym (lines_left-start t s.width c.start.result c.start.ensures.position))
-    ∙ c.line_at-in-None.ensures.lines
+pub returns-in-First-clause-lines : goal.returns-in-First-clause-lines
+returns-in-First-clause-lines c = ap (lines_after c.args.text.now c.args.self.now) c.in-First.is ∙ c.first.ensures.lines

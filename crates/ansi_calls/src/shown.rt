@@ -1,0 +1,112 @@
+//! How a shown text is written into the caller's buffer without being joined first.
+ghost use Rattle.std.specs.Prelude.{◌≡◌, ◌⊎◌, ◌+◌, ◌^◌, ◌<◌, ◌≤◌, ◌++◌, take, drop, length};
+ghost use Rattle.std.specs.Prelude.{IfSome, MatchResult};
+ghost use Rattle.std.specs.Option.{MatchOption};
+ghost use Rattle.ansi_str.specs.States.{rendition_of};
+ghost use Rattle.ansi_str.specs.Written.{close};
+ghost use Rattle.ansi_columns.specs.Shown.{blanks, shown_bytes, IsLent};
+ghost use Rattle.ansi_calls.specs.Answers.{out_of_memory, HasFailed, IsWritten};
+
+use crate::answers::{Answer, OUT_OF_MEMORY, write, write_text};
+use crate::lists::put;
+use ansi_columns::shown::{Shown, join};
+use ansi_style::state::Style;
+use ansi_style::styles;
+use ansi_style::styles::SHORT;
+use arrayvec::ArrayString;
+use std::alloc::{AllocError, Allocator};
+
+/// Writes a shown text, or reports out of memory. Allocates only if there is no room for all of it, or
+/// its close is long.
+pub(crate) fn write_shown<A: Allocator + Copy>(
+    alloc: A,
+    shown: Result<Shown<'_, '_, A>, AllocError>,
+    buffer: &mut [u8],
+) -> Answer
+    ensures { MatchResult shown.entry
+        (λ shown. IsWritten (shown_bytes shown) result buffer.old buffer.new
+        ⊎ ((¬ (IsLent shown)) × HasFailed out_of_memory result buffer.old buffer.new))
+        (λ e. HasFailed out_of_memory result buffer.old buffer.new) }
+{
+    let Ok(shown) = shown else {
+        return Answer::failed(OUT_OF_MEMORY);
+    };
+    if shown.missing == 0 && shown.tail.is_empty() && shown.ending.is_empty() {
+        return write(shown.text.as_bytes(), buffer);
+    }
+    match write_parts(&shown, buffer) {
+        Some(len) => Answer::done(len),
+        None => write_text(join(alloc, shown), buffer),
+    }
+}
+
+/// Writes the parts of a shown text, in order, if there is room for all of them and its close is
+/// short. Returns their length. After `None` the buffer is as it was. Doesn't allocate.
+#[inline(always)]
+fn write_parts<A: Allocator + Copy>(shown: &Shown<'_, '_, A>, buffer: &mut [u8]) -> Option<usize>
+    ensures { MatchOption result (buffer.new ≡ buffer.old)
+        (λ len. (len ≡ length (shown_bytes shown.now)) × (len ≤ length buffer.old)
+        × (buffer.new ≡ shown_bytes shown.now ++ drop len buffer.old)) }
+{
+    let close = short_close(&shown.ending.style)?;
+    let text = shown.text.as_str();
+    let link_end = shown.ending.link_end;
+    let len = shown
+        .missing
+        .checked_add(text.len())?
+        .checked_add(link_end.len())?
+        .checked_add(close.as_str().len())?
+        .checked_add(shown.tail.len())?;
+    if buffer.len() < len {
+        return None;
+    }
+    let before = shown.alignment.before_text(shown.missing);
+    let place = put_blanks(before, 0, buffer);
+    let place = put_str(text, place, buffer);
+    let place = put_str(link_end, place, buffer);
+    let place = put_str(close.as_str(), place, buffer);
+    let place = put_str(shown.tail, place, buffer);
+    Some(put_blanks(shown.missing - before, place, buffer))
+}
+
+/// The close of a style, if it is short. `None` says nothing.
+#[tactic(auto, using(ansi_style::proofs::UnsetLemmas::unset_styles))]
+#[inline(always)]
+fn short_close(style: &Style) -> Option<ArrayString<SHORT>>
+    ensures { IfSome result (λ s. s.bytes ≡ close (rendition_of style.now)) }
+{
+    if !styles::has_close(style) {
+        return Some(ArrayString::new());
+    }
+    styles::short_close(style)
+}
+
+/// Copies a text, which may be empty, to a place in a buffer, if there is room for it. Returns the
+/// place after it.
+#[inline(always)]
+fn put_str(text: &str, place: usize, buffer: &mut [u8]) -> usize
+    requires { place + length text.now < 2 ^ 64 }
+    ensures bytes { place + length text.now ≤ length buffer.old →
+        buffer.new ≡ take place buffer.old ++ text.now ++ drop (place + length text.now) buffer.old }
+    ensures after { result ≡ place + length text.now }
+{
+    if text.is_empty() {
+        return place;
+    }
+    put(text.as_bytes(), place, buffer)
+}
+
+/// Writes blanks at a place in a buffer, which has room for them. Returns the place after them.
+#[inline(always)]
+fn put_blanks(count: usize, place: usize, buffer: &mut [u8]) -> usize
+    requires { place + count ≤ length buffer.old }
+    ensures bytes { buffer.new
+        ≡ take place buffer.old ++ blanks count ++ drop (place + count) buffer.old }
+    ensures after { result ≡ place + count }
+{
+    let after = place + count;
+    if count != 0 {
+        buffer[place..after].fill(b' ');
+    }
+    after
+}
