@@ -59,6 +59,12 @@ put-more {old} {u} {now} {after} {place} {next} more so_far room put next_is =
       at = omega (arith, next_is, so_far.at, length-append u more);
     }
 
+-- all is written
+pub put-end : {old u now v : List ℕ} {place : ℕ} → IsPutSoFar old u now place → u ≡ v → place ≤ length old → (place ≡ length v) × (place ≤ length old) × (now ≡ v ++ drop place old)
+put-end {old} {u} {place = place} put same room =
+    let at = put.at in
+    (at ∙ ap length same, room, put.bytes ∙ ap₂ (λ w n. w ++ drop n old) same (sym at))
+
 abbrev text_of : CarriedPart → List ℕ
 text_of p = p.bytes
 

@@ -1,5 +1,5 @@
 //! Calls that return the display width of a text, make it ready for display, or return its links.
-ghost use Rattle.std.specs.Prelude.{◌≡◌, Some};
+ghost use Rattle.std.specs.Prelude.{◌≡◌, Some, MatchResult, IsUtf8};
 ghost use Rattle.ansi_calls.specs.Columns.{alignment_of, TellsWidth, TellsFitting, TellsColumn};
 ghost use Rattle.ansi_calls.specs.Columns.{Truncates, Pads};
 ghost use Rattle.ansi_calls.specs.Columns.{GivesTruncated, GivesPadded, Slices, GivesSliced};
@@ -8,12 +8,12 @@ ghost use Rattle.ansi_calls.specs.Columns.{GivesTruncatedAt, ExpandsTabs, GivesE
 ghost use Rattle.ansi_calls.specs.Columns.{WritesLink};
 
 use crate::answers::{Answer, NO, NOT_UTF8, OUT_OF_MEMORY, REFUSED, write, write_text};
-use crate::shown::write_shown;
+use crate::shown::{write_shown, write_slice};
 use ansi_columns::fit::fit_shown;
 use ansi_columns::shown::{Alignment, closed_cell, pad_shown, truncate_shown};
 use ansi_columns::sides::{Side, Truncation};
 use ansi_columns::{addresses, columns, sides, slices, tabs};
-use ansi_safe::utf8::from_utf8;
+use ansi_safe::utf8::{Utf8Error, from_utf8};
 use std::alloc::Allocator;
 
 const LEFT: u32 = 0;
@@ -74,10 +74,22 @@ pub fn truncate<A: Allocator + Copy>(
     let Ok(text) = from_utf8(text) else {
         return Answer::failed(NOT_UTF8);
     };
-    let Ok(tail) = from_utf8(tail) else {
+    let Ok(tail) = tail_of(tail) else {
         return Answer::failed(NOT_UTF8);
     };
     truncate_text(alloc, text, width, tail, buffer)
+}
+
+/// A tail, if its bytes are UTF-8. Those of `…` are known to be.
+#[inline(always)]
+fn tail_of(bytes: &[u8]) -> Result<&str, Utf8Error>
+    ensures { MatchResult result (λ tail. (tail.now ≡ bytes.now) × IsUtf8 bytes.now)
+        (λ _. ¬ (IsUtf8 bytes.now)) }
+{
+    if bytes == "…".as_bytes() {
+        return Ok("…");
+    }
+    from_utf8(bytes)
 }
 
 /// The same for texts that are known to be UTF-8.
@@ -147,7 +159,7 @@ pub fn fit<A: Allocator + Copy>(
     let Ok(text) = from_utf8(text) else {
         return Answer::failed(NOT_UTF8);
     };
-    let Ok(tail) = from_utf8(tail) else {
+    let Ok(tail) = tail_of(tail) else {
         return Answer::failed(NOT_UTF8);
     };
     fit_text(alloc, text, width, alignment, tail, buffer)
@@ -192,7 +204,7 @@ pub fn truncate_with<A: Allocator + Copy>(
     let Ok(text) = from_utf8(text) else {
         return Answer::failed(NOT_UTF8);
     };
-    let Ok(tail) = from_utf8(tail) else {
+    let Ok(tail) = tail_of(tail) else {
         return Answer::failed(NOT_UTF8);
     };
     truncate_text_at(alloc, text, width, tail, side, buffer)
@@ -247,7 +259,8 @@ fn slice_text<A: Allocator + Copy>(
 ) -> Answer
     ensures { GivesSliced text.now start end result buffer.old buffer.new }
 {
-    write_text(slices::slice(alloc, text, start, Some(end)), buffer)
+    let slice = slices::slice_shown(alloc, text, start, Some(end));
+    write_slice(alloc, slice, buffer)
 }
 
 /// The text with each TAB expanded to blanks up to the next multiple of `stop` columns.

@@ -1,15 +1,17 @@
-//! How a shown text is written into the caller's buffer without being joined first.
+//! How a shown text and a slice are written into the caller's buffer without being joined first.
 ghost use Rattle.std.specs.Prelude.{◌≡◌, ◌⊎◌, ◌+◌, ◌^◌, ◌<◌, ◌≤◌, ◌++◌, take, drop, length};
 ghost use Rattle.std.specs.Prelude.{IfSome, MatchResult};
 ghost use Rattle.std.specs.Option.{MatchOption};
 ghost use Rattle.ansi_str.specs.States.{rendition_of};
-ghost use Rattle.ansi_str.specs.Written.{close};
+ghost use Rattle.ansi_str.specs.Written.{start, close};
 ghost use Rattle.ansi_columns.specs.Shown.{blanks, shown_bytes, IsLent};
+ghost use Rattle.ansi_columns.specs.Slices.{stretch_bytes, sliced_bytes, IsLentSlice};
 ghost use Rattle.ansi_calls.specs.Answers.{out_of_memory, HasFailed, IsWritten};
 
-use crate::answers::{Answer, OUT_OF_MEMORY, write, write_text};
+use crate::answers::{Answer, OUT_OF_MEMORY, write, write_made, write_text};
 use crate::lists::put;
 use ansi_columns::shown::{Shown, join};
+use ansi_columns::slices::{Sliced, Stretch};
 use ansi_style::state::Style;
 use ansi_style::styles;
 use ansi_style::styles::SHORT;
@@ -67,6 +69,73 @@ fn write_parts<A: Allocator + Copy>(shown: &Shown<'_, '_, A>, buffer: &mut [u8])
     let place = put_str(close.as_str(), place, buffer);
     let place = put_str(shown.tail, place, buffer);
     Some(put_blanks(shown.missing - before, place, buffer))
+}
+
+/// Writes a slice, or reports out of memory. Allocates only if there is no room for all of it, or its
+/// start or its close is long.
+pub(crate) fn write_slice<A: Allocator + Copy>(
+    alloc: A,
+    slice: Result<Sliced<'_, A>, AllocError>,
+    buffer: &mut [u8],
+) -> Answer
+    ensures { MatchResult slice.entry
+        (λ slice. IsWritten (sliced_bytes slice) result buffer.old buffer.new
+        ⊎ ((¬ (IsLentSlice slice)) × HasFailed out_of_memory result buffer.old buffer.new))
+        (λ e. HasFailed out_of_memory result buffer.old buffer.new) }
+{
+    match slice {
+        Ok(Sliced::Joined(text)) => write(text.as_bytes(), buffer),
+        Ok(Sliced::Stretch(stretch)) => match write_stretch(&stretch, buffer) {
+            Some(len) => Answer::done(len),
+            None => write_made(stretch.join(alloc), buffer),
+        },
+        Err(_) => Answer::failed(OUT_OF_MEMORY),
+    }
+}
+
+/// Writes a stretch and what opens and closes it, if there is room for all of it and its start and its
+/// close are short. Returns its length. After `None` the buffer is as it was. Doesn't allocate.
+#[inline(always)]
+fn write_stretch(stretch: &Stretch<'_>, buffer: &mut [u8]) -> Option<usize>
+    ensures { MatchOption result (buffer.new ≡ buffer.old)
+        (λ len. (len ≡ length (stretch_bytes stretch.now)) × (len ≤ length buffer.old)
+        × (buffer.new ≡ stretch_bytes stretch.now ++ drop len buffer.old)) }
+{
+    let text = stretch.text;
+    if buffer.len() < text.len() {
+        return None;
+    }
+    let start = short_start(&stretch.opened.style)?;
+    let close = short_close(&stretch.ending.style)?;
+    let start = start.as_str();
+    let close = close.as_str();
+    let link = stretch.opened.link;
+    let link_end = stretch.ending.link_end;
+    let len = text
+        .len()
+        .checked_add(start.len())?
+        .checked_add(link.len())?
+        .checked_add(link_end.len())?
+        .checked_add(close.len())?;
+    if buffer.len() < len {
+        return None;
+    }
+    let place = put_str(start, 0, buffer);
+    let place = put_str(link, place, buffer);
+    let place = put_str(text, place, buffer);
+    let place = put_str(link_end, place, buffer);
+    Some(put_str(close, place, buffer))
+}
+
+/// The start of a style, if it is short. `None` says nothing.
+#[inline(always)]
+fn short_start(style: &Style) -> Option<ArrayString<SHORT>>
+    ensures { IfSome result (λ s. s.bytes ≡ start (rendition_of style.now)) }
+{
+    if !styles::has_any(style) {
+        return Some(ArrayString::new());
+    }
+    styles::short_start(style)
 }
 
 /// The close of a style, if it is short. `None` says nothing.

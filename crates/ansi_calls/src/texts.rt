@@ -4,6 +4,7 @@ ghost use Rattle.std.specs.Prelude.{Some, option_map, IsTrue, IsOk, IfOk};
 ghost use Rattle.std.specs.Cow.{cow_str_bytes};
 ghost use Rattle.ansi_str.specs.Plain.{plain, has_escape};
 ghost use Rattle.ansi_str.specs.Edited.{edited, stay_borrowed};
+ghost use Rattle.ansi_str.specs.Changes.{CutRange};
 ghost use Rattle.ansi_str.specs.Edits.{change_of};
 ghost use Rattle.ansi_calls.specs.Answers.{no, Gives};
 ghost use Rattle.ansi_calls.specs.Calls.{Strips, Changes, Cuts, TakesLeft, TakesRight, Trims};
@@ -15,7 +16,7 @@ use ansi_items::ansitok::{Kind, Scanner};
 use ansi_safe::utf8::from_utf8;
 use ansi_str::Edit;
 use ansi_str::edits::edit_once;
-use ansi_str::slice::{has_any, strip_in};
+use ansi_str::slice::{get_in, has_any, strip_in};
 use std::alloc::{AllocError, Allocator};
 use std::borrow::CowStr;
 
@@ -85,6 +86,7 @@ fn put_run(run: &[u8], place: usize, buffer: &mut [u8]) -> usize
 }
 
 /// The text from one position up to another.
+#[tactic(auto, unfolding(crate::specs::Answers::GivesEdited))]
 pub fn cut<A: Allocator + Copy>(
     alloc: A,
     text: &[u8],
@@ -94,11 +96,25 @@ pub fn cut<A: Allocator + Copy>(
 ) -> Answer
     ensures { Cuts text.now start end result buffer.old buffer.new }
 {
-    let cut = Edit::Cut {
-        start,
-        end: Some(end),
-    };
-    write_edited(alloc, text, cut, REFUSED, buffer)
+    match from_utf8(text) {
+        Ok(text) => write_found(cut_text(alloc, text, start, end), REFUSED, buffer),
+        Err(_) => Answer::failed(NOT_UTF8),
+    }
+}
+
+/// The same for a text that is known to be UTF-8, or `None` if the range is bad.
+fn cut_text<A: Allocator + Copy>(
+    alloc: A,
+    text: &str,
+    start: usize,
+    end: usize,
+) -> Result<Option<CowStr<'_, A>>, AllocError>
+    ensures bytes { IfOk result (λ o. option_map cow_str_bytes o
+        ≡ edited (CutRange start (Some end) ∷ []) text.now) }
+    ensures takes_no_memory { IsTrue (stay_borrowed (CutRange start (Some end) ∷ []) text.now) →
+        IsOk result }
+{
+    get_in(alloc, text, start, Some(end))
 }
 
 /// The text before a position.

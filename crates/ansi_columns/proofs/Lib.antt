@@ -59,6 +59,7 @@ pub mod SliceScreenLemmas
 pub mod ScreenLawLemmas
 pub mod WrapScreenLemmas
 pub mod SliceCellLemmas
+pub mod AsciiSliceLemmas
 pub mod SidesLemmas
 pub mod FittedLawLemmas
 pub mod SidesLawLemmas

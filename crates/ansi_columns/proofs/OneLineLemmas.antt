@@ -336,6 +336,10 @@ Prints-cell t utf8 =
       all = ap (λ x. list_all is_printing (chars x)) (plain-cell t utf8) ∙ ap (list_all is_printing) (chars-encodes cs are.scalar) ∙ cell_chars-printing (chars (plain t));
     }
 
+-- and so with a text that is one
+pub cell-prints : {t u : List ℕ} → IsUtf8 t → u ≡ cell t → list_all is_printing (chars (plain u)) ≡ true
+cell-prints {t} utf8 is = ap (λ v. list_all is_printing (chars (plain v))) is ∙ (Prints-cell t utf8).all
+
 pub safe-cell : (t : List ℕ) → IsUtf8 t → is_safe Keep (cell t) ≡ true
 safe-cell t utf8 = search (placed-is_safe, utf8)
 

@@ -14,6 +14,8 @@ use Rattle.ansi_items.specs.declared.ansitok.Kind.TheVariants.{Sgr}
 use Rattle.ansi_items.specs.Sequences.{is_sgr}
 use Rattle.ansi_items.specs.Pieces.{Piece, Text, Sequence, LoneEscape, spelling, pieces_of}
 use Rattle.ansi_items.specs.Plain.{plain, plain_bytes, plain_of, marks, marks_of, is_whole}
+use Rattle.ansi_items.specs.Bytes.{is_plain_byte}
+use Rattle.ansi_items.proofs.PlainLemmas.{pieces_of-bare, has_escape-bare}
 use Rattle.ansi_items.proofs.JoinLemmas.{spelled}
 use Rattle.ansi_items.proofs.StepLemmas.{is_mark}
 use Rattle.ansi_items.proofs.Utf8Lemmas.{IsUtf8-plain}
@@ -195,6 +197,32 @@ plain-end {t} utf8 so_far none =
       printable = ap (λ ps. list_all is_printable (plain_of ps)) pieces ∙ printable;
       last_is = so_far.last_is ∙ ap (λ ps. last_byte (plain_of ps)) (sym pieces);
     }
+
+-- a text of printable ASCII alone
+printable-plain : (w : List ℕ) → list_all is_printable w ≡ true → list_all is_plain_byte w ≡ true
+printable-plain [] all = refl
+printable-plain (b ∷ w) all =
+    let both = and_parts (is_printable b) (list_all is_printable w) all in
+    and_from _ _ (one b both.0) (printable-plain w both.1)
+  where
+    one : (b : ℕ) → is_printable b ≡ true → is_plain_byte b ≡ true
+    one b printable = grind (arith, nat_tests)
+
+pub plain-bare : {width left last : ℕ} {style : Rendition} (t : List ℕ) → IsUtf8 t → 0 < length t → list_all is_printable t ≡ true → left + length t ≡ width → style ≡ plain_style → last ≡ last_byte t → IsPlainCell t width left style last
+plain-bare [] utf8 some all count style_is last_is = absurd (omega (arith, some))
+plain-bare {width} {left} {last} {style} (b ∷ w) utf8 some all count style_is last_is =
+    let t = b ∷ w in
+    let same : t ++ [] ≡ t = append-nil t in
+    let so_far : IsPlainSoFar t width left style last (length t) [] = record {
+      front = Text t ∷ [];
+      all = pieces_of-bare t (has_escape-bare t (printable-plain t all));
+      are_plain = and_from _ _ all refl;
+      bytes = ap length (sym same);
+      count = omega (arith, count, ap length same);
+      style_is = style_is;
+      last_is = last_is ∙ ap last_byte (sym same);
+    } in
+    plain-end utf8 so_far refl
 
 -- ---- the text truncated
 

@@ -67,21 +67,26 @@ module _ {t : List ℕ} {end : Option ℕ} {u : List ℕ} {b : ℕ} (a : ℕ) (c
   pub cell-stretch : cell t ≡ t → is_stretch u a b ≡ is_sliced_stretch t a end
   cell-stretch stays = ap (is_stretch u a) cut.up_to ∙ stretch-top u a top end within ∙ ap (λ v. is_sliced_stretch v a end) (cut.text ∙ stays)
 
-  pub cell-whole : (w : List ℕ) → w ≡ sliced_up_to u a b → IsTrue (is_whole w)
-  cell-whole w same = subst (λ v. IsTrue (is_whole v)) (sym (same ∙ cell-sliced)) (sliced-whole (cell t) a (unwrap_or end (columns (plain (cell t)))) (IsUtf8-cell t cut.utf8) (whole-cell t cut.utf8))
-
-  pub cell-closed : (w : List ℕ) → w ≡ sliced_up_to u a b → IsClosed w
-  cell-closed w same = subst IsClosed (sym (same ∙ cell-sliced)) (sliced-closed (cell t) a (unwrap_or end (columns (plain (cell t)))) (IsUtf8-cell t cut.utf8) (whole-cell t cut.utf8))
-
-  -- it is safe and on one line
-  pub cell-clean : (w : List ℕ) → w ≡ sliced_up_to u a b → IsClean w
-  cell-clean w same = subst IsClean (sym (same ∙ cell-sliced)) (clean-sliced_cell t a (unwrap_or end (columns (plain (cell t)))) cut.utf8)
-
   pub cell-borrowed : {borrowed : Type 0} → cell t ≡ t → (borrowed ↔ IsTrue (is_stretch u a b)) → borrowed ↔ ((cell t ≡ t) × IsTrue (is_sliced_stretch t a end))
   cell-borrowed stays iff = (λ is. (stays, subst IsTrue (cell-stretch stays) (iff.0 is)), λ all. iff.1 (subst IsTrue (sym (cell-stretch stays)) all.1))
 
-  pub cell-screen : (w : List ℕ) → w ≡ sliced_up_to u a b → screen w ≡ sliced_screen a end (screen (cell t))
-  cell-screen w same =
-      ap screen (same ∙ cell-sliced)
-      ∙ slice-screen (cell t) a (unwrap_or end (columns (plain (cell t)))) (IsUtf8-cell t cut.utf8) (whole-cell t cut.utf8)
+-- what a slice of a cell is, whatever is written of it
+module _ (t : List ℕ) (a : ℕ) (end : Option ℕ) (utf8 : IsUtf8 t) (w : List ℕ) (same : w ≡ sliced (cell t) a end) where
+  abbrev upper : ℕ
+  upper = unwrap_or end (columns (plain (cell t)))
+
+  pub cell-whole : IsTrue (is_whole w)
+  cell-whole = subst (λ v. IsTrue (is_whole v)) (sym same) (sliced-whole (cell t) a upper (IsUtf8-cell t utf8) (whole-cell t utf8))
+
+  pub cell-closed : IsClosed w
+  cell-closed = subst IsClosed (sym same) (sliced-closed (cell t) a upper (IsUtf8-cell t utf8) (whole-cell t utf8))
+
+  -- it is safe and on one line
+  pub cell-clean : IsClean w
+  cell-clean = subst IsClean (sym same) (clean-sliced_cell t a upper utf8)
+
+  pub cell-screen : screen w ≡ sliced_screen a end (screen (cell t))
+  cell-screen =
+      ap screen same
+      ∙ slice-screen (cell t) a upper (IsUtf8-cell t utf8) (whole-cell t utf8)
       ∙ ap (λ n. screen_slice a (unwrap_or end n) (screen (cell t))) (sym (length-screen_of (clusters (plain (cell t))) (styled (cell t)) (linked (cell t))))

@@ -367,7 +367,7 @@ length-link_of : (t : List ℕ) → length (link_of (marks t)) ≤ length t
 length-link_of t = omega (arith, ap length (link_of-pieces (pieces_of t)), length-link_through [] (pieces_of t), ap length (spelled-pieces_of t))
 
 -- the link that is carried, and the text after the sequence that opened it, are in the text
-link-within : (t : List ℕ) (from to : ℕ) → length (link_of (marks (take from t))) + length (slice_range t from to) ≤ length t
+pub link-within : (t : List ℕ) (from to : ℕ) → length (link_of (marks (take from t))) + length (slice_range t from to) ≤ length t
 link-within t from to = omega (arith, length-link_of (take from t), length-take from t, length-take (to - from) (drop from t), length-drop from t)
 
 -- the parts have no more bytes than each of them together, and all of the text's
@@ -391,7 +391,7 @@ length-joined parts =
       length-kept text parts.hidden (length (plain text)),
     )
 
-length-parts : (parts : Parts) (t : List ℕ) {n : ℕ} → length parts.opened.link.now + length parts.text.now ≤ length t → parts.before + parts.after ≡ n
+pub length-parts : (parts : Parts) (t : List ℕ) {n : ℕ} → length parts.opened.link.now + length parts.text.now ≤ length t → parts.before + parts.after ≡ n
     → length (joined_parts parts) ≤ length t + n + longest_start_and_close + longest_link_end
 length-parts parts t within count =
     omega (
@@ -558,6 +558,22 @@ alone-bytes parts whole alone =
     (ap₂ (λ u v. u ++ v) (ap₂ (λ u n. u ++ blanks n) (ap₂ (λ u v. u ++ v) no_style no_link) none_before) (ap (λ n. kept text n (length (plain text))) (whole.shown none_before) ∙ kept-all text (length (plain text)) (omega arith)))
     (ap₂ (λ n u. blanks n ++ u) none_after no_closing)
     ∙ append-nil text)
+
+-- Parts of which no cluster is divided.
+
+module _ (parts : Parts) (none_before : parts.before ≡ 0) (none_after : parts.after ≡ 0) where
+  abbrev pub after_text : List ℕ
+  after_text = link_end parts.closed.link.now ++ close (rendition_of parts.closed.style)
+
+  abbrev pub before_text : List ℕ
+  before_text = start (rendition_of parts.opened.style) ++ parts.opened.link.now
+
+  pub whole-bytes : AreWhole parts → joined_parts parts ≡ before_text ++ parts.text.now ++ after_text
+  whole-bytes whole =
+      let text = parts.text.now in
+      ap₂ (λ u v. u ++ v)
+      (ap₂ (λ u v. u ++ v) (ap (λ n. before_text ++ blanks n) none_before ∙ append-nil before_text) (ap (λ n. kept text n (length (plain text))) (whole.shown none_before) ∙ kept-all text (length (plain text)) (omega arith)))
+      (ap (λ n. blanks n ++ after_text) none_after)
 
 pub sliced-nothing : (t : List ℕ) (a b : ℕ) → has_no_column (plain t) a b ≡ true → [] ≡ sliced_up_to t a b
 unfolding sliced_up_to

@@ -1,5 +1,8 @@
 -- A slice of a text by columns: where it begins and ends, and what is written.
-use Rattle.std.specs.Prelude.{◌≡◌, ℕ, ◌+◌, ◌-◌, ◌≤◌, ◌==◌, ◌⊎◌, min, Bool, true, not, ◌&&◌, ◌||◌, List, [], ◌∷◌, ◌++◌, length, nat_lt, nat_le, Option, Some, None, unwrap_or, if◌then◌else◌, IsTrue, IsFalse}
+use Rattle.std.specs.Prelude.{◌≡◌, ℕ, ◌+◌, ◌-◌, ◌≤◌, ◌==◌, ◌⊎◌, min, Bool, true, chars, not, ◌&&◌, ◌||◌, List, [], ◌∷◌, ◌++◌, length, nat_lt, nat_le, Option, Some, None, unwrap_or, if◌then◌else◌, IsTrue, IsFalse}
+use Rattle.std.specs.Cow.{cow_str_bytes, IsBorrowedStr}
+use Rattle.std.specs.List.{list_all}
+use Rattle.std.specs.Str.{IsAscii}
 use Rattle.ansi_items.specs.Plain.{plain, marks, marks_up_to}
 use Rattle.ansi_style.specs.Rendition.{has_any}
 use Rattle.ansi_style.specs.States.{rendition_of}
@@ -10,11 +13,15 @@ use Rattle.ansi_slice.specs.Cut.{interleaved}
 use Rattle.ansi_slice.specs.Kept.{kept}
 use Rattle.ansi_split.specs.Parts.{marks_past}
 use Rattle.ansi_safe.specs.Links.{link_at, link_end, longest_link_end, pen_close}
+use Rattle.ansi_safe.specs.Safe.{is_printing}
 use Rattle.ansi_columns.specs.Columns.{clusters, cluster_width, columns, columns_of, bytes_of}
 use Rattle.ansi_columns.specs.Shown.{blanks}
 use Rattle.ansi_columns.specs.Walks.{clusters_from, IsWalk}
 use Rattle.ansi_columns.specs.declared.slices.Edge.{Edge}
 use Rattle.ansi_columns.specs.declared.slices.Parts.{Parts}
+use Rattle.ansi_columns.specs.declared.slices.Sliced.{Sliced}
+use Rattle.ansi_columns.specs.declared.slices.Sliced.TheVariants.{Joined, Stretch as Stretched}
+use Rattle.ansi_columns.specs.declared.slices.Stretch.{Stretch}
 
 -- The clusters that end at or before the column n, from the first one on. A cluster without columns belongs to the column after it. (Own.)
 abbrev pub ended : ℕ → List (List ℕ) → List (List ℕ)
@@ -102,7 +109,32 @@ is_stretch t a b =
 abbrev pub is_sliced_stretch : List ℕ → ℕ → Option ℕ → Bool
 is_sliced_stretch t a end = is_stretch t a (unwrap_or end (columns (plain t)))
 
--- the edge that is n columns after the place `here` of t; no public contract cites what follows
+-- what opens a stretch, the stretch, and what closes it
+abbrev pub stretch_opening : Stretch → List ℕ
+stretch_opening s = start (rendition_of s.opened.style) ++ s.opened.link.now
+
+abbrev pub stretch_closing : Stretch → List ℕ
+stretch_closing s = s.ending.link_end.now ++ close (rendition_of s.ending.style)
+
+abbrev pub stretch_bytes : Stretch → List ℕ
+stretch_bytes s = stretch_opening s ++ s.text.now ++ stretch_closing s
+
+-- a slice, joined
+abbrev pub sliced_bytes : {A : Type 0} → Sliced A → List ℕ
+sliced_bytes (Joined c) = cow_str_bytes c
+sliced_bytes (Stretched s) = stretch_bytes s
+
+-- it is a text that the caller lends
+abbrev pub IsLentSlice : {A : Type 0} → Sliced A → Type 0
+IsLentSlice (Joined c) = IsBorrowedStr c
+IsLentSlice (Stretched s) = ⊥
+
+-- a text of a cell of ASCII; no public contract cites what follows
+pub record IsAsciiCell (t : List ℕ) : Type 0 where
+  pub ascii : IsAscii t
+  pub prints : list_all is_printing (chars (plain t)) ≡ true
+
+-- the edge that is n columns after the place `here` of t
 pub record IsEdge (t : List ℕ) (here n : ℕ) (edge : Edge) : Type 0 where
   pub start_walk : IsWalk t edge.start
   pub end_walk : IsWalk t edge.end
@@ -149,3 +181,9 @@ pub record AreParts (t : List ℕ) (a b : ℕ) (parts : Parts) : Type 0 where
   pub bytes : joined_parts parts ≡ sliced_up_to t a b
   pub alone : is_middle_alone parts ≡ is_stretch t a b
   pub len : length (joined_parts parts) ≤ length t + slice_blanks (plain t) a b + longest_start_and_close + longest_link_end
+
+-- the parts of a slice of one, no cluster of which is divided
+pub record AreAsciiParts (t : List ℕ) (a b : ℕ) (parts : Parts) : Type 0 where
+  pub parts_are : AreParts t a b parts
+  pub none_before : parts.before ≡ 0
+  pub none_after : parts.after ≡ 0

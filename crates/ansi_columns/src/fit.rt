@@ -118,7 +118,7 @@ pub fn fit_shown<'t, 'a, A: Allocator + Copy>(
         ending,
         tail,
         missing,
-    } = truncated_parts(alloc, text, width, tail)?;
+    } = truncated_parts(alloc, text, width, tail, true)?;
     if let Some(missing) = missing {
         return Ok(Shown {
             text: front,

@@ -1,7 +1,8 @@
 //! The texts of cells that are printable ASCII and select graphic renditions alone. They stay as
 //! they are, and one pass tells their columns and the style at their end, or where they are cut and
 //! the style there. A paragraph that fits into one line is such a text too.
-ghost use Rattle.std.specs.Prelude.{◌≡◌, ◌<◌, ◌≤◌, ℕ, IfSome, MatchOption, IsTrue, length, slice_range};
+ghost use Rattle.std.specs.Prelude.{◌≡◌, ◌<◌, ◌≤◌, ℕ, IfSome, MatchOption, IsTrue, length, take, slice_range};
+ghost use Rattle.std.specs.Str.{IsAscii};
 ghost use Rattle.std.specs.List.{list_all};
 ghost use Rattle.ansi_style.specs.States.{rendition_of};
 ghost use Rattle.ansi_safe.specs.Safe.{is_printable_byte};
@@ -42,17 +43,52 @@ fn is_short_ascii(text: &str) -> bool {
 
 /// Whether the bytes are ASCII, read 16 or 8 at a time. The last ones may overlap those before.
 #[inline(always)]
-fn is_ascii(bytes: &[u8]) -> bool {
+pub(crate) fn is_ascii(bytes: &[u8]) -> bool
+    ensures { IsTrue result → IsAscii bytes.now }
+{
     match bytes.len() {
-        0..=7 => bytes.iter().all(|b| *b < 0x80),
-        8..=15 => is_ascii_8(bytes) && is_ascii_8(&bytes[bytes.len() - 8..]),
-        _ => { bytes.chunks_exact(16).all(is_ascii_16) && is_ascii_16(&bytes[bytes.len() - 16..]) }
+        0..=7 => is_ascii_by_1(bytes),
+        8..=15 => begins_ascii_8(bytes) && begins_ascii_8(&bytes[bytes.len() - 8..]),
+        _ => is_ascii_by_16(bytes),
     }
+}
+
+/// The same, byte by byte.
+#[inline(always)]
+fn is_ascii_by_1(bytes: &[u8]) -> bool
+    ensures { IsTrue result → IsAscii bytes.now }
+{
+    let mut at = 0;
+    while at < bytes.len() {
+        if bytes[at] >= 0x80 {
+            return false;
+        }
+        at += 1;
+    }
+    true
+}
+
+/// The same of at least 16 bytes, 16 at a time.
+#[inline(always)]
+fn is_ascii_by_16(bytes: &[u8]) -> bool
+    requires { 16 ≤ length bytes.now }
+    ensures { IsTrue result → IsAscii bytes.now }
+{
+    let mut rest = bytes;
+    while 16 < rest.len() {
+        if !begins_ascii_16(rest) {
+            return false;
+        }
+        rest = &rest[16..];
+    }
+    begins_ascii_16(&bytes[bytes.len() - 16..])
 }
 
 /// Whether there are 8 bytes at the front, and they are ASCII.
 #[inline(always)]
-fn is_ascii_8(bytes: &[u8]) -> bool {
+fn begins_ascii_8(bytes: &[u8]) -> bool
+    ensures { IsTrue result → IsAscii (take 8 bytes.now) }
+{
     match bytes.first_chunk::<8>() {
         Some(front) => u64::from_le_bytes(*front) & 0x8080_8080_8080_8080 == 0,
         None => false,
@@ -61,7 +97,9 @@ fn is_ascii_8(bytes: &[u8]) -> bool {
 
 /// Whether there are 16 bytes at the front, and they are ASCII.
 #[inline(always)]
-fn is_ascii_16(bytes: &[u8]) -> bool {
+fn begins_ascii_16(bytes: &[u8]) -> bool
+    ensures { IsTrue result → IsAscii (take 16 bytes.now) }
+{
     match bytes.first_chunk::<16>() {
         Some(front) => {
             u128::from_le_bytes(*front) & 0x8080_8080_8080_8080_8080_8080_8080_8080 == 0
@@ -114,6 +152,9 @@ pub(crate) fn plain_runs(text: &str, width: usize) -> Option<PlainFront>
     if LONGEST < text.len() || begins_otherwise(text) {
         return None;
     }
+    if let Some(front) = bare_front(text, width) {
+        return Some(front);
+    }
     let mut style = styles::plain_style();
     let mut left = width;
     let mut last = 0;
@@ -142,6 +183,24 @@ pub(crate) fn plain_runs(text: &str, width: usize) -> Option<PlainFront>
         left,
         style,
         last,
+        run: None,
+    })
+}
+
+/// The front of a text of a cell, if that is a text of printable ASCII alone that fits. `None` says
+/// nothing.
+#[inline(always)]
+fn bare_front(text: &str, width: usize) -> Option<PlainFront>
+    ensures { IfSome result (IsFront text.now width) }
+{
+    let len = text.len();
+    if len == 0 || width < len || !is_printable(text, 0, len) {
+        return None;
+    }
+    Some(PlainFront {
+        left: width - len,
+        style: styles::plain_style(),
+        last: text.as_bytes()[len - 1],
         run: None,
     })
 }

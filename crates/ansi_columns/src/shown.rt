@@ -133,7 +133,7 @@ pub fn truncate_shown<'t, 'a, A: Allocator + Copy>(
         ending,
         tail,
         missing: _,
-    } = truncated_parts(alloc, text, width, tail)?;
+    } = truncated_parts(alloc, text, width, tail, false)?;
     Ok(Shown {
         text: front,
         ending,
@@ -208,12 +208,14 @@ pub(crate) struct TruncatedParts<'t, 'a, A: Allocator> {
     pub(crate) missing: Option<usize>,
 }
 
-/// The parts of a text of a cell that is truncated.
+/// The parts of a text of a cell that is truncated. What it lacks is looked for only if it is `padded`
+/// then.
 pub(crate) fn truncated_parts<'t, 'a, A: Allocator>(
     alloc: A,
     text: &'t str,
     width: usize,
     tail: &'a str,
+    padded: bool,
 ) -> Result<TruncatedParts<'t, 'a, A>, AllocError>
     ensures bytes { IfOk result (λ p. (cow_str_bytes p.front
         ++ (p.ending.link_end.now ++ close (rendition_of p.ending.style))) ++ p.tail.now
@@ -233,11 +235,11 @@ pub(crate) fn truncated_parts<'t, 'a, A: Allocator>(
 {
     let runs = plain_runs(text, width);
     if let Some(front) = &runs
-        && let Some(plain) = plain_parts(text, width, tail, front)
+        && let Some(plain) = plain_parts(text, width, tail, padded, front)
     {
         return Ok(plain);
     }
-    let cut = truncation(text, width, tail, fitted(text, width, &runs));
+    let cut = truncation(text, width, tail, padded, fitted(text, width, &runs));
     let (front, ending) = cell_and_ending(alloc, &text[..cut.end.offset])?;
     Ok(TruncatedParts {
         front,
@@ -253,6 +255,7 @@ fn plain_parts<'t, 'a, A: Allocator>(
     text: &'t str,
     width: usize,
     tail: &'a str,
+    padded: bool,
     front: &PlainFront,
 ) -> Option<TruncatedParts<'t, 'a, A>>
     requires { IsFront text.now width front.now }
@@ -294,7 +297,7 @@ fn plain_parts<'t, 'a, A: Allocator>(
             style: cut.style,
         },
         tail,
-        missing: is_apart(cut.end, tail).then_some(0),
+        missing: is_known_apart(padded, cut.end, tail).then_some(0),
     })
 }
 
@@ -312,7 +315,7 @@ struct Cut<'a> {
 /// Where the text of a cell is cut, and the tail that is written after it.
 ///
 /// `from` is a prefix that fits.
-fn truncation<'a>(text: &str, width: usize, tail: &'a str, from: Fitted) -> Cut<'a>
+fn truncation<'a>(text: &str, width: usize, tail: &'a str, padded: bool, from: Fitted) -> Cut<'a>
     requires { IsFitted View.Shown text.now width from }
     ensures walk { IsWalkIn View.Shown text.now result.end }
     ensures fits { SeesUpTo View.Shown text.now
@@ -340,7 +343,7 @@ fn truncation<'a>(text: &str, width: usize, tail: &'a str, from: Fitted) -> Cut<
     Cut {
         end: front.walk,
         tail,
-        missing: is_apart(front.walk, tail).then_some(front.left),
+        missing: is_known_apart(padded, front.walk, tail).then_some(front.left),
     }
 }
 
@@ -370,6 +373,17 @@ fn beside<'a>(width: usize, tail: &'a str) -> (usize, &'a str)
     } else {
         (width - columns, tail)
     }
+}
+
+/// The same as `is_apart`, if that is `asked`. `false` says nothing.
+#[inline(always)]
+fn is_known_apart(asked: bool, walk: Walk, tail: &str) -> bool
+    ensures bare { IsTrue result → IsTrue (list_all is_plain_byte tail.now) }
+    ensures breaks { IsTrue result → (before : List ℕ) → before ≢ [] →
+        walk.break_state ≡ break_state_of before →
+        is_grapheme_break true before (chars tail.now) ≡ true }
+{
+    asked && is_apart(walk, tail)
 }
 
 /// Whether a tail has no sequence, and a cluster ends before it, if it is written where a walk is.

@@ -1,28 +1,33 @@
 //! Slices of a text by columns, ready for display. A slice opens the style and the link that are
 //! open where it begins, and closes what is open where it ends.
-ghost use Rattle.std.specs.Prelude.{◌≡◌, ◌≤◌, ◌↔◌, ◌+◌, ◌==◌, ◌++◌, [], length, nat_lt};
+ghost use Rattle.std.specs.Prelude.{◌≡◌, ◌≤◌, ◌<◌, ◌↔◌, ◌+◌, ◌^◌, ◌==◌, ◌&&◌, ◌++◌, [], true, length};
+ghost use Rattle.std.specs.Prelude.{chars, nat_lt, nat_le};
 ghost use Rattle.std.specs.Prelude.{if◌then◌else◌, IsTrue, IsOk, IfOk, MatchOption, OnOk};
 ghost use Rattle.std.specs.Prelude.{string_bytes};
 ghost use Rattle.std.specs.Cow.{cow_str_bytes, IsBorrowedStr};
+ghost use Rattle.std.specs.List.{list_all};
 ghost use Rattle.ansi_items.specs.Plain.{plain, is_whole};
 ghost use Rattle.ansi_style.specs.Written.{longest_start_and_close};
 ghost use Rattle.ansi_safe.specs.Cells.{cell};
 ghost use Rattle.ansi_safe.specs.Links.{longest_link_end, IsClosed};
-ghost use Rattle.ansi_safe.specs.Safe.{is_safe};
+ghost use Rattle.ansi_safe.specs.Safe.{is_safe, is_printing};
 ghost use Rattle.ansi_safe.specs.declared.policy.Links.TheVariants.{Keep};
 ghost use Rattle.ansi_columns.specs.OneLine.{is_one_line};
 ghost use Rattle.ansi_columns.specs.Columns.{columns_of};
 ghost use Rattle.ansi_columns.specs.Slices.{has_no_column, is_stretch, slice_blanks};
 ghost use Rattle.ansi_columns.specs.Slices.{is_sliced_stretch, sliced_blanks, sliced_up_to, sliced};
-ghost use Rattle.ansi_columns.specs.Slices.{AreParts, IsEdge, closed_at};
+ghost use Rattle.ansi_columns.specs.Slices.{AreParts, AreAsciiParts, IsAsciiCell, IsEdge, closed_at};
+ghost use Rattle.ansi_columns.specs.Slices.{sliced_bytes, IsLentSlice};
 ghost use Rattle.ansi_columns.specs.Screens.{screen, sliced_screen};
 ghost use Rattle.ansi_columns.specs.Walks.{IsWalk, clusters_from};
 
+use crate::plain_cells::is_ascii;
 use crate::shown::push_blanks;
 use crate::views::View;
 use crate::walks::{Run, Walk};
+use ansi_items::ansitok::{Kind, Scanner};
 use ansi_safe::cells::cell_of;
-use ansi_safe::links::{Pen, pen_after, pen_after_from};
+use ansi_safe::links::{Ending, Pen, link_after, pen_after, pen_after_from, plain_pen};
 use ansi_slice::slice::push_sequences;
 use ansi_style::styles;
 use std::alloc::{AllocError, Allocator};
@@ -55,14 +60,159 @@ pub fn slice<'t, A: Allocator + Copy>(
     ensures takes_no_memory { (cell text.now ≡ text.now)
         × IsTrue (is_sliced_stretch text.now start end) → IsOk result }
 {
+    slice_shown(alloc, text, start, end)?.join(alloc)
+}
+
+/// Like [`slice`], not joined yet.
+///
+/// ```
+/// let part = slice_shown(rt.alloc(), "\x1b[31mabc\x1b[39m", 1, Some(2))?;
+/// assert!(rt; matches!(&part, Sliced::Stretch(part) if part.text == "b"));
+/// assert!(rt; part.join(rt.alloc())?.as_str() == "\x1b[31mb\x1b[39m");
+/// ```
+#[inline(always)]
+pub fn slice_shown<'t, A: Allocator + Copy>(
+    alloc: A,
+    text: &'t str,
+    start: usize,
+    end: Option<usize>,
+) -> Result<Sliced<'t, A>, AllocError>
+    ensures bytes { IfOk result (λ s. sliced_bytes s ≡ sliced (cell text.now) start end) }
+    ensures borrowed { IfOk result (λ s. IsLentSlice s ↔ ((cell text.now ≡ text.now)
+        × IsTrue (is_sliced_stretch text.now start end))) }
+    ensures len { IfOk result (λ s. length (sliced_bytes s) ≤ length (cell text.now)
+        + sliced_blanks (cell text.now) start end + longest_start_and_close + longest_link_end) }
+    ensures takes_no_memory { (cell text.now ≡ text.now)
+        × IsTrue (is_sliced_stretch text.now start end) → IsOk result }
+{
     let end = end.unwrap_or(usize::MAX);
     match cell_of(alloc, text)? {
-        CowStr::Borrowed(cell) => slice_up_to(alloc, cell, start, end),
+        CowStr::Borrowed(cell) => slice_cell(alloc, cell, start, end),
         CowStr::Owned(cell) => {
-            let slice = slice_up_to(alloc, cell.as_str(), start, end)?;
-            Ok(CowStr::Owned(slice.into_owned(alloc)?))
+            let slice = slice_cell(alloc, cell.as_str(), start, end)?.join(alloc)?;
+            Ok(Sliced::Joined(CowStr::Owned(slice.into_owned(alloc)?)))
         }
     }
+}
+
+/// A slice that is ready for display, and may be not joined yet. (Own.)
+///
+/// ```
+/// let part = slice_shown(rt.alloc(), "\x1b[31mabc", 0, Some(2))?;
+/// assert!(rt; matches!(&part, Sliced::Stretch(part) if part.text == "\x1b[31mab"));
+/// ```
+#[derive(Drop)]
+pub enum Sliced<'t, A: Allocator> {
+    /// It is joined, or nothing is written before and after its text.
+    Joined(CowStr<'t, A>),
+    /// Something is.
+    Stretch(Stretch<'t>),
+}
+
+/// A stretch of a text of a cell, and what is written before and after it. (Own.)
+///
+/// ```
+/// let part = slice_shown(rt.alloc(), "\x1b[31mabc", 1, Some(2))?;
+/// assert!(rt; matches!(&part, Sliced::Stretch(part) if !part.opened.is_plain()));
+/// ```
+#[derive(Clone, Copy)]
+pub struct Stretch<'t> {
+    /// The pen that is opened.
+    pub opened: Pen<'t>,
+    /// The stretch.
+    pub text: &'t str,
+    /// What ends its pen.
+    pub ending: Ending,
+}
+
+impl<'t, A: Allocator> Sliced<'t, A> {
+    ghost use Rattle.std.specs.Prelude.{◌≡◌, ◌↔◌, IfOk, IsOk};
+    ghost use Rattle.std.specs.Cow.{cow_str_bytes, IsBorrowedStr};
+    ghost use Rattle.ansi_columns.specs.Slices.{sliced_bytes, IsLentSlice};
+
+    /// The slice, as it is joined. A borrow if nothing is written before and after its text. `Err`
+    /// means out of memory.
+    ///
+    /// ```
+    /// let part = slice_shown(rt.alloc(), "\x1b[31mabc", 0, Some(2))?;
+    /// assert!(rt; part.join(rt.alloc())?.as_str() == "\x1b[31mab\x1b[39m");
+    /// ```
+    #[inline(always)]
+    pub fn join(self, alloc: A) -> Result<CowStr<'t, A>, AllocError>
+        ensures bytes { IfOk result (λ c. cow_str_bytes c ≡ sliced_bytes self.entry) }
+        ensures borrowed { IfOk result (λ c. IsBorrowedStr c ↔ IsLentSlice self.entry) }
+        ensures takes_no_memory { IsLentSlice self.entry → IsOk result }
+    {
+        match self {
+            Sliced::Joined(text) => Ok(text),
+            Sliced::Stretch(stretch) => Ok(CowStr::Owned(stretch.join(alloc)?)),
+        }
+    }
+}
+
+impl<'t> Stretch<'t> {
+    ghost use Rattle.std.specs.Prelude.{◌≡◌, IfOk, string_bytes};
+    ghost use Rattle.ansi_columns.specs.Slices.{stretch_bytes};
+
+    /// The stretch with what is written before and after it. `Err` means out of memory.
+    ///
+    /// ```
+    /// let part = slice_shown(rt.alloc(), "\x1b[31mabc", 2, None)?;
+    /// if let Sliced::Stretch(part) = part {
+    ///     assert!(rt; part.join(rt.alloc())?.as_str() == "\x1b[31mc\x1b[39m");
+    /// }
+    /// ```
+    pub fn join<A: Allocator>(&self, alloc: A) -> Result<String<A>, AllocError>
+        ensures bytes { IfOk result (λ s. string_bytes s ≡ stretch_bytes self.now) }
+    {
+        let Stretch {
+            opened,
+            text,
+            ending,
+        } = *self;
+        let len = text
+            .len()
+            .saturating_add(opened.link.len())
+            .saturating_add(ending.link_end.len());
+        let mut out = styles::with_room_to_close(alloc, &opened.style, len, &ending.style)?;
+        styles::write_start(&opened.style, &mut out)?;
+        out.push_str(opened.link)?;
+        out.push_str(text)?;
+        ending.push_to(&mut out)?;
+        Ok(out)
+    }
+}
+
+/// The columns of a text of a cell, from `start` up to `end`. It is lent if nothing is written before
+/// and after its stretch of the text.
+#[inline(always)]
+fn slice_cell<'t, A: Allocator>(
+    alloc: A,
+    text: &'t str,
+    start: usize,
+    end: usize,
+) -> Result<Sliced<'t, A>, AllocError>
+    requires { list_all is_printing (chars (plain text.now)) ≡ true }
+    ensures bytes { IfOk result (λ s. sliced_bytes s ≡ sliced_up_to text.now start end) }
+    ensures lent { IfOk result (λ s. IsLentSlice s ↔ IsTrue (is_stretch text.now start end)) }
+    ensures len { IfOk result (λ s. length (sliced_bytes s) ≤ length text.now
+        + slice_blanks (plain text.now) start end + longest_start_and_close + longest_link_end) }
+    ensures takes_no_memory { IsTrue (is_stretch text.now start end) → IsOk result }
+{
+    if !is_ascii(text.as_bytes()) {
+        return Ok(Sliced::Joined(slice_up_to(alloc, text, start, end)?));
+    }
+    let Some(parts) = ascii_parts(text, start, end) else {
+        return Ok(Sliced::Joined(CowStr::Borrowed("")));
+    };
+    if parts.is_middle_alone() {
+        return Ok(Sliced::Joined(CowStr::Borrowed(parts.text)));
+    }
+    Ok(Sliced::Stretch(Stretch {
+        opened: parts.opened,
+        text: parts.text,
+        ending: parts.closed.ending(),
+    }))
 }
 
 /// The columns of a text as it is, from `start` up to `end`. It is a borrow if nothing is written
@@ -149,6 +299,53 @@ fn parts_of(text: &str, start: usize, end: usize) -> Option<Parts<'_>>
         after,
         closed: pen_after_from(opened, text),
     })
+}
+
+/// The same of a text of a cell of ASCII, in one pass: each byte of its plain text has one column.
+fn ascii_parts(text: &str, start: usize, end: usize) -> Option<Parts<'_>>
+    requires { IsAsciiCell text.now }
+    ensures { MatchOption result (IsTrue (has_no_column (plain text.now) start end))
+        (AreAsciiParts text.now start end) }
+{
+    if end <= start {
+        return None;
+    }
+    let mut style = styles::plain_style();
+    let mut link = "";
+    let mut opened = plain_pen();
+    let mut from = 0;
+    let mut place = 0;
+    for item in Scanner::new(text) {
+        let piece = &text[item.start..item.end];
+        if item.kind == Kind::Text {
+            if is_in_run(start, place, piece.len()) {
+                from = item.start + (start - place);
+                opened = Pen { style, link };
+            }
+            if end - place < piece.len() {
+                let stretch = &text[from..item.start + (end - place)];
+                return Some(Parts::stretch(opened, stretch, Pen { style, link }));
+            }
+            place += piece.len();
+        } else if item.kind == Kind::Sgr {
+            styles::apply(&mut style, piece);
+        } else if item.kind == Kind::Other {
+            link = link_after(link, piece);
+        }
+    }
+    if place <= start {
+        return None;
+    }
+    let stretch = &text[from..text.len()];
+    Some(Parts::stretch(opened, stretch, Pen { style, link }))
+}
+
+/// Whether a column after the first one is in a run of ASCII that begins at the position `place`.
+fn is_in_run(column: usize, place: usize, len: usize) -> bool
+    requires { place + len < 2 ^ 64 }
+    ensures { result ≡ (nat_lt 0 column && nat_le place column && nat_lt column (place + len)) }
+{
+    0 < column && place <= column && column < place + len
 }
 
 /// The offset from which on the text of a slice is read, which begins with this column and cluster.
@@ -259,6 +456,23 @@ impl<'t> Parts<'t> {
     ghost use Rattle.std.specs.Prelude.{OnOk, string_bytes};
     ghost use Rattle.std.specs.Cow.{cow_str_bytes, IsBorrowedStr};
     ghost use Rattle.ansi_columns.specs.Slices.{AreWhole, joined_parts, is_middle_alone};
+
+    /// A stretch of a text between two pens, no cluster of which is divided.
+    fn stretch(opened: Pen<'t>, text: &'t str, closed: Pen<'t>) -> Parts<'t>
+        ensures opened { result.opened ≡ opened.entry }
+        ensures text { result.text.now ≡ text.now }
+        ensures closed { result.closed ≡ closed.entry }
+        ensures whole { (result.before ≡ 0) × (result.hidden ≡ 0) × (result.after ≡ 0) }
+    {
+        Parts {
+            opened,
+            before: 0,
+            text,
+            hidden: 0,
+            after: 0,
+            closed,
+        }
+    }
 
     /// The parts one after another: a borrow if only the text is written.
     fn write<A: Allocator>(&self, alloc: A) -> Result<CowStr<'t, A>, AllocError>

@@ -5,7 +5,7 @@ use ansi_columns::fit::{fit, fit_shown};
 use ansi_columns::lines::Lines;
 use ansi_columns::shown::{closed_cell, join, pad, pad_shown, truncate, truncate_shown};
 use ansi_columns::sides::truncate_with;
-use ansi_columns::slices::slice;
+use ansi_columns::slices::{Sliced, slice, slice_shown};
 use ansi_columns::tabs::expand_tabs;
 use ansi_columns::wrap::indents::wrap_with;
 use ansi_columns::wrap::{has_next, only_line, wrap};
@@ -175,6 +175,44 @@ fn truncate_example(rt: HostRuntime) -> Result<(), Fail> {
 fn pad_example(rt: HostRuntime) -> Result<(), Fail> {
     let padded = pad(rt.alloc(), "\x1b[31m日本", 6, Alignment::Right)?;
     assert!(rt; padded.as_str() == "  \x1b[31m日本\x1b[39m");
+    Ok(())
+}
+
+#[test]
+fn slice_shown_example(rt: HostRuntime) -> Result<(), Fail> {
+    let part = slice_shown(rt.alloc(), "\x1b[31mabc\x1b[39m", 1, Some(2))?;
+    assert!(rt; matches!(&part, Sliced::Stretch(part) if part.text == "b"));
+    assert!(rt; part.join(rt.alloc())?.as_str() == "\x1b[31mb\x1b[39m");
+    Ok(())
+}
+
+#[test]
+fn sliced_example(rt: HostRuntime) -> Result<(), Fail> {
+    let part = slice_shown(rt.alloc(), "\x1b[31mabc", 0, Some(2))?;
+    assert!(rt; matches!(&part, Sliced::Stretch(part) if part.text == "\x1b[31mab"));
+    Ok(())
+}
+
+#[test]
+fn stretch_example(rt: HostRuntime) -> Result<(), Fail> {
+    let part = slice_shown(rt.alloc(), "\x1b[31mabc", 1, Some(2))?;
+    assert!(rt; matches!(&part, Sliced::Stretch(part) if !part.opened.is_plain()));
+    Ok(())
+}
+
+#[test]
+fn sliced_join_example(rt: HostRuntime) -> Result<(), Fail> {
+    let part = slice_shown(rt.alloc(), "\x1b[31mabc", 0, Some(2))?;
+    assert!(rt; part.join(rt.alloc())?.as_str() == "\x1b[31mab\x1b[39m");
+    Ok(())
+}
+
+#[test]
+fn stretch_join_example(rt: HostRuntime) -> Result<(), Fail> {
+    let part = slice_shown(rt.alloc(), "\x1b[31mabc", 2, None)?;
+    if let Sliced::Stretch(part) = part {
+        assert!(rt; part.join(rt.alloc())?.as_str() == "\x1b[31mc\x1b[39m");
+    }
     Ok(())
 }
 

@@ -1,21 +1,16 @@
-use Rattle.std.proofs.Common.{◌≡◌, ◌≤◌, ◌+◌, ◌-◌, ◌++◌, List, ℕ, length, take, drop, sym, ◌∙◌, ap, ap₂, subst, arith, append_assoc}
+use Rattle.std.proofs.Common.{◌≡◌, ◌≤◌, ◌+◌, ◌-◌, ◌++◌, List, ℕ, length, take, drop, sym, ◌∙◌, ap, subst, arith, append_assoc}
 use Rattle.std.specs.Str.{byte}
 use Rattle.std.specs.Cow.{cow_str_bytes}
 use Rattle.std.proofs.lemmas.List.{length-replicate}
 use Rattle.ansi_style.specs.States.{rendition_of}
 use Rattle.ansi_style.specs.Written.{close}
 use Rattle.ansi_columns.specs.Shown.{blanks}
-use Rattle.ansi_calls.proofs.GivenLemmas.{IsPutSoFar, put-begin, put-more}
+use Rattle.ansi_calls.proofs.GivenLemmas.{put-begin, put-more, put-end}
 use Rattle.ansi_calls.proofs.shown.write_parts.Goals as goal
 
 -- the parts as they are written, and as they are joined
 arranged : (b x e k w : List ℕ) → (((b ++ x) ++ e) ++ k) ++ w ≡ b ++ ((x ++ (e ++ k)) ++ w)
 arranged b x e k w = ap (λ u. u ++ w) (append_assoc (b ++ x) e k ∙ append_assoc b x (e ++ k)) ∙ append_assoc b (x ++ (e ++ k)) w
-
-written : {old u now v : List ℕ} {place : ℕ} → IsPutSoFar old u now place → u ≡ v → place ≤ length old → (place ≡ length v) × (place ≤ length old) × (now ≡ v ++ drop place old)
-written {old} {u} {place = place} put same room =
-    let at = put.at in
-    (at ∙ ap length same, room, put.bytes ∙ ap₂ (λ w n. w ++ drop n old) same (sym at))
 
 pub returns : goal.returns
 returns g c =
@@ -44,7 +39,7 @@ returns g c =
     let K = close (rendition_of s.ending.style) in
     let more = blanks after in
     let k_is : k ≡ K = c.as_str-2.ensures.value ∙ c.in_ok-close.ensures in
-    written six
+    put-end six
     (ap (λ u. u ++ more) (arranged (blanks before) x e k w)
     ∙ ap (λ u. (blanks before ++ ((u ++ (e ++ k)) ++ w)) ++ more) c.as_str-text.ensures.value
     ∙ ap (λ u. (blanks before ++ ((X ++ (e ++ u)) ++ w)) ++ more) k_is

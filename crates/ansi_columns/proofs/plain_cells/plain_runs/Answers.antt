@@ -13,7 +13,7 @@ use Rattle.ansi_columns.proofs.PlainFrontLemmas.{at-run}
 use Rattle.ansi_columns.proofs.plain_cells.plain_runs.Goals as goal
 
 pub range-piece-requires : goal.range-piece-requires
-range-piece-requires c = item_range c.in-Some.ensures.steps c.loop-item.invariant.text
+range-piece-requires c = item_range c.in-Some-item.ensures.steps c.loop-item.invariant.text
 
 pub loop-item-init : goal.loop-item-init
 loop-item-init c =
@@ -30,7 +30,7 @@ loop-item-init c =
 -- over an SGR
 pub loop-item-preserved-then-eq : goal.loop-item-preserved-then-eq
 loop-item-preserved-then-eq c =
-    let gives = c.in-Some.ensures.steps in
+    let gives = c.in-Some-item.ensures.steps in
     let inv = c.loop-item.invariant in
     let kind = is_kind Sgr c.if-eq.ensures in
     record { text = gives.text ∙ inv.text; so_far = plain-sgr inv.so_far (over_mark gives inv.text c.range-piece.ensures.value (λ e. cc)) kind c.apply.ensures }
@@ -38,7 +38,7 @@ loop-item-preserved-then-eq c =
 -- over a run
 pub loop-item-preserved : goal.loop-item-preserved
 loop-item-preserved c =
-    let gives = c.in-Some.ensures.steps in
+    let gives = c.in-Some-item.ensures.steps in
     let inv = c.loop-item.invariant in
     let over = over_text gives inv.text c.range-piece.ensures.value (kind_is_text (sym (not-false _ (sym c.if-ne.ensures)))) in
     record {
@@ -52,7 +52,7 @@ loop-item-preserved c =
 pub returns-then-left-piece : goal.returns-then-left-piece
 returns-then-left-piece c =
     let inv = c.loop-item.invariant in
-    at-run _ c.utf8.text inv.so_far c.in-Some.ensures.steps inv.text (kind_is_text (sym (not-false _ (sym c.if-ne.ensures)))) c.at_run-run.ensures
+    at-run _ c.utf8.text inv.so_far c.in-Some-item.ensures.steps inv.text (kind_is_text (sym (not-false _ (sym c.if-ne.ensures)))) c.at_run-run.ensures
 
 pub returns : goal.returns
 returns c = plain-end c.utf8.text c.loop-item.invariant.so_far c.in-None.ensures.steps.2

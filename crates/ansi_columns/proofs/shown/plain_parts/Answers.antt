@@ -70,4 +70,4 @@ returns-clause-missing g c =
     let t = c.args.text.now in
     let lacks = IsLack (cell t) c.args.width c.args.tail.now in
     subst (λ o. IfSome o lacks) (sym c.then_some.ensures)
-    (known_if lacks c.is_apart.result 0 (λ holds. plain-lack c.args.width c.args.tail.now c.beside-room.result.1.now c.utf8.text c.in_ok-cut.ensures (beside.room (cell t) wide) (beside.tail (cell t) wide) beside.sum (c.is_apart.ensures.bare holds) (c.is_apart.ensures.breaks holds)))
+    (known_if lacks c.is_known_apart.result 0 (λ holds. plain-lack c.args.width c.args.tail.now c.beside-room.result.1.now c.utf8.text c.in_ok-cut.ensures (beside.room (cell t) wide) (beside.tail (cell t) wide) beside.sum (c.is_known_apart.ensures.bare holds) (c.is_known_apart.ensures.breaks holds)))

@@ -69,4 +69,4 @@ returns-clause-missing c =
     let sees = subst (λ n. SeesUpTo Shown t n at.position) (sym (is.0 ∙ ap (λ n. width - n) (sym c.tail_width-columns.ensures))) front.fits in
     let sum : columns (take (seen_len Shown t at.position) (seen_text Shown t)) + left + columns (plain tail) ≡ width = omega (arith, front.left, c.tail_width-columns.ensures) in
     subst (λ o. IfSome o (IsLack (cell t) width tail)) (sym c.then_some.ensures)
-    (known_if (IsLack (cell t) width tail) c.is_apart.result left (λ holds. lack-beside t c.utf8.text width tail at front.walk sees left tail sum is.1 (c.is_apart.ensures.bare holds) (c.is_apart.ensures.breaks holds)))
+    (known_if (IsLack (cell t) width tail) c.is_known_apart.result left (λ holds. lack-beside t c.utf8.text width tail at front.walk sees left tail sum is.1 (c.is_known_apart.ensures.bare holds) (c.is_known_apart.ensures.breaks holds)))

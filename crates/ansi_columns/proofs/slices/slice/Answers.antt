@@ -1,107 +1,21 @@
-use Rattle.std.proofs.Common.{IsTrue, length, sym, ◌∙◌, ap, subst, arith, rules}
-use Rattle.std.specs.Cow.{cow_str_bytes, IsBorrowedStr}
 use Rattle.std.proofs.lemmas.Result.{IfOk-weaker}
+use Rattle.std.specs.Cow.{cow_str_bytes}
+use Rattle.std.proofs.Common.{◌∙◌}
 use Rattle.ansi_columns.proofs.OneLineLemmas.{clean-safe, clean-one_line}
-use Rattle.ansi_columns.proofs.SliceCellLemmas.{IsCellUpTo, cell-sliced, cell-blanks, cell-stretch, cell-whole, cell-closed, cell-clean, cell-screen, cell-borrowed}
+use Rattle.ansi_columns.proofs.SliceCellLemmas.{cell-whole, cell-closed, cell-clean, cell-screen}
 use Rattle.ansi_columns.proofs.slices.slice.Goals as goal
 
--- the cell is borrowed, so it is the text
+pub returns-clause-safe : goal.returns-clause-safe
+returns-clause-safe g c = IfOk-weaker c.join.result _ _ (λ s same. clean-safe (cell-clean c.args.text.now c.args.start c.args.end c.utf8.text (cow_str_bytes s) (same ∙ c.in_ok-slice_shown.ensures.bytes))) c.join.ensures.bytes
 
-pub returns-in-Borrowed-clause-bytes : goal.returns-in-Borrowed-clause-bytes
-returns-in-Borrowed-clause-bytes g c =
-    let text = sym (ap cow_str_bytes c.in-Borrowed.is) ∙ c.in_ok-cell.ensures.bytes in
-    let cut : IsCellUpTo c.args.text.now c.args.end c.in-Borrowed.cell.now c.unwrap_or-end.result = record { utf8 = c.utf8.text; size = search rules; text = text; up_to = c.unwrap_or-end.ensures } in
-    IfOk-weaker c.slice_up_to.result _ _ (λ s same. same ∙ cell-sliced c.args.start cut) c.slice_up_to.ensures.bytes
+pub returns-clause-one_line : goal.returns-clause-one_line
+returns-clause-one_line g c = IfOk-weaker c.join.result _ _ (λ s same. clean-one_line (cell-clean c.args.text.now c.args.start c.args.end c.utf8.text (cow_str_bytes s) (same ∙ c.in_ok-slice_shown.ensures.bytes))) c.join.ensures.bytes
 
-pub returns-in-Borrowed-clause-borrowed : goal.returns-in-Borrowed-clause-borrowed
-returns-in-Borrowed-clause-borrowed g c =
-    let text = sym (ap cow_str_bytes c.in-Borrowed.is) ∙ c.in_ok-cell.ensures.bytes in
-    let cut : IsCellUpTo c.args.text.now c.args.end c.in-Borrowed.cell.now c.unwrap_or-end.result = record { utf8 = c.utf8.text; size = search rules; text = text; up_to = c.unwrap_or-end.ensures } in
-    let stays = c.in_ok-cell.ensures.borrowed.0 (subst IsBorrowedStr (sym c.in-Borrowed.is) tt) in
-    IfOk-weaker c.slice_up_to.result _ _ (λ s iff. cell-borrowed c.args.start cut stays iff) c.slice_up_to.ensures.borrowed
+pub returns-clause-closed : goal.returns-clause-closed
+returns-clause-closed g c = IfOk-weaker c.join.result _ _ (λ s same. cell-closed c.args.text.now c.args.start c.args.end c.utf8.text (cow_str_bytes s) (same ∙ c.in_ok-slice_shown.ensures.bytes)) c.join.ensures.bytes
 
-pub returns-in-Borrowed-clause-whole : goal.returns-in-Borrowed-clause-whole
-returns-in-Borrowed-clause-whole g c =
-    let text = sym (ap cow_str_bytes c.in-Borrowed.is) ∙ c.in_ok-cell.ensures.bytes in
-    let cut : IsCellUpTo c.args.text.now c.args.end c.in-Borrowed.cell.now c.unwrap_or-end.result = record { utf8 = c.utf8.text; size = search rules; text = text; up_to = c.unwrap_or-end.ensures } in
-    IfOk-weaker c.slice_up_to.result _ _ (λ s same. cell-whole c.args.start cut (cow_str_bytes s) same) c.slice_up_to.ensures.bytes
+pub returns-clause-screen : goal.returns-clause-screen
+returns-clause-screen g c = IfOk-weaker c.join.result _ _ (λ s same. cell-screen c.args.text.now c.args.start c.args.end c.utf8.text (cow_str_bytes s) (same ∙ c.in_ok-slice_shown.ensures.bytes)) c.join.ensures.bytes
 
-pub returns-in-Borrowed-clause-safe : goal.returns-in-Borrowed-clause-safe
-returns-in-Borrowed-clause-safe g c =
-    let text = sym (ap cow_str_bytes c.in-Borrowed.is) ∙ c.in_ok-cell.ensures.bytes in
-    let cut : IsCellUpTo c.args.text.now c.args.end c.in-Borrowed.cell.now c.unwrap_or-end.result = record { utf8 = c.utf8.text; size = search rules; text = text; up_to = c.unwrap_or-end.ensures } in
-    IfOk-weaker c.slice_up_to.result _ _ (λ s same. clean-safe (cell-clean c.args.start cut (cow_str_bytes s) same)) c.slice_up_to.ensures.bytes
-
-pub returns-in-Borrowed-clause-one_line : goal.returns-in-Borrowed-clause-one_line
-returns-in-Borrowed-clause-one_line g c =
-    let text = sym (ap cow_str_bytes c.in-Borrowed.is) ∙ c.in_ok-cell.ensures.bytes in
-    let cut : IsCellUpTo c.args.text.now c.args.end c.in-Borrowed.cell.now c.unwrap_or-end.result = record { utf8 = c.utf8.text; size = search rules; text = text; up_to = c.unwrap_or-end.ensures } in
-    IfOk-weaker c.slice_up_to.result _ _ (λ s same. clean-one_line (cell-clean c.args.start cut (cow_str_bytes s) same)) c.slice_up_to.ensures.bytes
-
-pub returns-in-Borrowed-clause-closed : goal.returns-in-Borrowed-clause-closed
-returns-in-Borrowed-clause-closed g c =
-    let text = sym (ap cow_str_bytes c.in-Borrowed.is) ∙ c.in_ok-cell.ensures.bytes in
-    let cut : IsCellUpTo c.args.text.now c.args.end c.in-Borrowed.cell.now c.unwrap_or-end.result = record { utf8 = c.utf8.text; size = search rules; text = text; up_to = c.unwrap_or-end.ensures } in
-    IfOk-weaker c.slice_up_to.result _ _ (λ s same. cell-closed c.args.start cut (cow_str_bytes s) same) c.slice_up_to.ensures.bytes
-
-pub returns-in-Borrowed-clause-screen : goal.returns-in-Borrowed-clause-screen
-returns-in-Borrowed-clause-screen g c =
-    let text = sym (ap cow_str_bytes c.in-Borrowed.is) ∙ c.in_ok-cell.ensures.bytes in
-    let cut : IsCellUpTo c.args.text.now c.args.end c.in-Borrowed.cell.now c.unwrap_or-end.result = record { utf8 = c.utf8.text; size = search rules; text = text; up_to = c.unwrap_or-end.ensures } in
-    IfOk-weaker c.slice_up_to.result _ _ (λ s same. cell-screen c.args.start cut (cow_str_bytes s) same) c.slice_up_to.ensures.bytes
-
-pub returns-in-Borrowed-clause-len : goal.returns-in-Borrowed-clause-len
-returns-in-Borrowed-clause-len g c =
-    let text = sym (ap cow_str_bytes c.in-Borrowed.is) ∙ c.in_ok-cell.ensures.bytes in
-    let cut : IsCellUpTo c.args.text.now c.args.end c.in-Borrowed.cell.now c.unwrap_or-end.result = record { utf8 = c.utf8.text; size = search rules; text = text; up_to = c.unwrap_or-end.ensures } in
-    IfOk-weaker c.slice_up_to.result _ _ (λ s most. omega (arith, most, cell-blanks c.args.start cut, ap length text)) c.slice_up_to.ensures.len
-
-pub returns-in-Borrowed-clause-takes_no_memory : goal.returns-in-Borrowed-clause-takes_no_memory
-returns-in-Borrowed-clause-takes_no_memory g c =
-    let text = sym (ap cow_str_bytes c.in-Borrowed.is) ∙ c.in_ok-cell.ensures.bytes in
-    let cut : IsCellUpTo c.args.text.now c.args.end c.in-Borrowed.cell.now c.unwrap_or-end.result = record { utf8 = c.utf8.text; size = search rules; text = text; up_to = c.unwrap_or-end.ensures } in
-    λ all. c.slice_up_to.ensures.takes_no_memory (subst IsTrue (sym (cell-stretch c.args.start cut all.0)) all.1)
-
--- it is owned
-
-pub returns-in_ok-into_owned-in-Owned-clause-bytes : goal.returns-in_ok-into_owned-in-Owned-clause-bytes
-returns-in_ok-into_owned-in-Owned-clause-bytes g c =
-    let text = c.as_str.ensures.value ∙ sym (ap cow_str_bytes c.in-Owned.is) ∙ c.in_ok-cell.ensures.bytes in
-    let cut : IsCellUpTo c.args.text.now c.args.end c.as_str.result.now c.unwrap_or-end.result = record { utf8 = c.utf8.text; size = search rules; text = text; up_to = c.unwrap_or-end.ensures } in
-    c.in_ok-into_owned-in-Owned.ensures.ok ∙ c.in_ok-slice-in-Owned.ensures.bytes ∙ cell-sliced c.args.start cut
-
-pub returns-in_ok-into_owned-in-Owned-clause-whole : goal.returns-in_ok-into_owned-in-Owned-clause-whole
-returns-in_ok-into_owned-in-Owned-clause-whole g c =
-    let text = c.as_str.ensures.value ∙ sym (ap cow_str_bytes c.in-Owned.is) ∙ c.in_ok-cell.ensures.bytes in
-    let cut : IsCellUpTo c.args.text.now c.args.end c.as_str.result.now c.unwrap_or-end.result = record { utf8 = c.utf8.text; size = search rules; text = text; up_to = c.unwrap_or-end.ensures } in
-    cell-whole c.args.start cut _ (c.in_ok-into_owned-in-Owned.ensures.ok ∙ c.in_ok-slice-in-Owned.ensures.bytes)
-
-pub returns-in_ok-into_owned-in-Owned-clause-safe : goal.returns-in_ok-into_owned-in-Owned-clause-safe
-returns-in_ok-into_owned-in-Owned-clause-safe g c =
-    let text = c.as_str.ensures.value ∙ sym (ap cow_str_bytes c.in-Owned.is) ∙ c.in_ok-cell.ensures.bytes in
-    let cut : IsCellUpTo c.args.text.now c.args.end c.as_str.result.now c.unwrap_or-end.result = record { utf8 = c.utf8.text; size = search rules; text = text; up_to = c.unwrap_or-end.ensures } in
-    clean-safe (cell-clean c.args.start cut _ (c.in_ok-into_owned-in-Owned.ensures.ok ∙ c.in_ok-slice-in-Owned.ensures.bytes))
-
-pub returns-in_ok-into_owned-in-Owned-clause-one_line : goal.returns-in_ok-into_owned-in-Owned-clause-one_line
-returns-in_ok-into_owned-in-Owned-clause-one_line g c =
-    let text = c.as_str.ensures.value ∙ sym (ap cow_str_bytes c.in-Owned.is) ∙ c.in_ok-cell.ensures.bytes in
-    let cut : IsCellUpTo c.args.text.now c.args.end c.as_str.result.now c.unwrap_or-end.result = record { utf8 = c.utf8.text; size = search rules; text = text; up_to = c.unwrap_or-end.ensures } in
-    clean-one_line (cell-clean c.args.start cut _ (c.in_ok-into_owned-in-Owned.ensures.ok ∙ c.in_ok-slice-in-Owned.ensures.bytes))
-
-pub returns-in_ok-into_owned-in-Owned-clause-closed : goal.returns-in_ok-into_owned-in-Owned-clause-closed
-returns-in_ok-into_owned-in-Owned-clause-closed g c =
-    let text = c.as_str.ensures.value ∙ sym (ap cow_str_bytes c.in-Owned.is) ∙ c.in_ok-cell.ensures.bytes in
-    let cut : IsCellUpTo c.args.text.now c.args.end c.as_str.result.now c.unwrap_or-end.result = record { utf8 = c.utf8.text; size = search rules; text = text; up_to = c.unwrap_or-end.ensures } in
-    cell-closed c.args.start cut _ (c.in_ok-into_owned-in-Owned.ensures.ok ∙ c.in_ok-slice-in-Owned.ensures.bytes)
-
-pub returns-in_ok-into_owned-in-Owned-clause-screen : goal.returns-in_ok-into_owned-in-Owned-clause-screen
-returns-in_ok-into_owned-in-Owned-clause-screen g c =
-    let text = c.as_str.ensures.value ∙ sym (ap cow_str_bytes c.in-Owned.is) ∙ c.in_ok-cell.ensures.bytes in
-    let cut : IsCellUpTo c.args.text.now c.args.end c.as_str.result.now c.unwrap_or-end.result = record { utf8 = c.utf8.text; size = search rules; text = text; up_to = c.unwrap_or-end.ensures } in
-    cell-screen c.args.start cut _ (c.in_ok-into_owned-in-Owned.ensures.ok ∙ c.in_ok-slice-in-Owned.ensures.bytes)
-
-pub returns-in_ok-into_owned-in-Owned-clause-len : goal.returns-in_ok-into_owned-in-Owned-clause-len
-returns-in_ok-into_owned-in-Owned-clause-len g c =
-    let text = c.as_str.ensures.value ∙ sym (ap cow_str_bytes c.in-Owned.is) ∙ c.in_ok-cell.ensures.bytes in
-    let cut : IsCellUpTo c.args.text.now c.args.end c.as_str.result.now c.unwrap_or-end.result = record { utf8 = c.utf8.text; size = search rules; text = text; up_to = c.unwrap_or-end.ensures } in
-    omega (arith, ap length c.in_ok-into_owned-in-Owned.ensures.ok, c.in_ok-slice-in-Owned.ensures.len, cell-blanks c.args.start cut, ap length text)
+pub returns-clause-whole : goal.returns-clause-whole
+returns-clause-whole g c = IfOk-weaker c.join.result _ _ (λ s same. cell-whole c.args.text.now c.args.start c.args.end c.utf8.text (cow_str_bytes s) (same ∙ c.in_ok-slice_shown.ensures.bytes)) c.join.ensures.bytes
