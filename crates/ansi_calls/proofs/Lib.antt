@@ -7,3 +7,4 @@ pub mod LineListLemmas
 pub mod LinkListLemmas
 pub mod PenLemmas
 pub mod MadeLemmas
+pub mod BareLineLemmas

@@ -1,7 +1,7 @@
 //! Calls that wrap a text. One returns its lines, concatenated, and where each ends. The others
 //! return where each begins and ends in the plain text, all at once or one by one.
 ghost use Rattle.std.specs.Prelude.{◌≡◌, ◌⊎◌, ◌<◌, ◌≤◌, [], ◌++◌, length, drop, flat_map, map};
-ghost use Rattle.std.specs.Prelude.{IsFalse, IfNone, IfSome, not, ◌||◌, bytes_eq};
+ghost use Rattle.std.specs.Prelude.{◌∷◌, IsTrue, IsFalse, IfNone, IfSome, not, ◌||◌, bytes_eq};
 ghost use Rattle.std.specs.Prelude.{IfOk, string_bytes};
 ghost use Rattle.ansi_items.specs.Plain.{has_escape};
 ghost use Rattle.ansi_safe.specs.Cells.{paragraph};
@@ -11,7 +11,7 @@ ghost use Rattle.ansi_calls.specs.Columns.{wrapped_lines, Wraps, GivesIndented, 
 ghost use Rattle.ansi_calls.specs.Columns.{line_entries, WritesLines, BeginsLines, GivesNextLine};
 
 use crate::answers::{Answer, NO, NOT_UTF8, OK, TOO_SMALL};
-use crate::lists::{ListAnswer, copy_texts, put, write_copied, write_texts};
+use crate::lists::{ListAnswer, copy_texts, put, write_copied, write_list, write_texts};
 use crate::walks::write_between;
 use ansi_columns::laws;
 use ansi_columns::line_walks::{LineWalk, next_line, walk_lines};
@@ -19,6 +19,7 @@ use ansi_columns::lines::Lines;
 use ansi_columns::wrap::indents::{Wrap, wrap_with as wrapped_with};
 use ansi_columns::wrap::{AnsiWrap, only_line, wrap as wrapped};
 use ansi_safe::cells::paragraph_of;
+use ansi_safe::printable::printable_len;
 use ansi_safe::utf8::from_utf8;
 use ansi_str::AnsiStr;
 use ansi_style::styles;
@@ -47,6 +48,9 @@ pub fn wrap<A: Allocator + Copy>(
     let Ok(text) = from_utf8(text) else {
         return ListAnswer::failed(NOT_UTF8);
     };
+    if is_bare_line(text, width) {
+        return write_list(text.as_bytes(), &[text.len()], buffer, ends);
+    }
     if is_bare_paragraph(alloc, text) {
         return write_bare_lines(alloc, text, width, buffer, ends);
     }
@@ -55,6 +59,23 @@ pub fn wrap<A: Allocator + Copy>(
         Some(answer) => answer,
         None => write_texts(alloc, text.len(), lines, buffer, ends),
     }
+}
+
+/// Whether a text is printable ASCII alone that fits into a line and doesn't end with a blank, so that
+/// it is its only line. `false` says nothing.
+#[inline(always)]
+fn is_bare_line(text: &str, width: usize) -> bool
+    ensures { IsTrue result → wrapped_lines text.now width ≡ text.now ∷ [] }
+{
+    let len = text.len();
+    if len == 0 || width < len {
+        return false;
+    }
+    let last = text.as_bytes()[len - 1];
+    if last <= b' ' || last > b'~' {
+        return false;
+    }
+    printable_len(text.as_bytes()) == len
 }
 
 /// Writes the only line of a wrap and where it ends, if it is known that there is only one, and there

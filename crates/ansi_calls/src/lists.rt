@@ -508,7 +508,7 @@ fn write_joined<T: Copy, A: Allocator>(
 
 /// Writes concatenated texts at the front of one buffer and their entries at the front of another,
 /// if there is room for both.
-fn write_list<T: Copy>(
+pub(crate) fn write_list<T: Copy>(
     texts: &[u8],
     their_entries: &[T],
     buffer: &mut [u8],
