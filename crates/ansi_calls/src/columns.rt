@@ -1,5 +1,11 @@
 //! Calls that return the display width of a text, make it ready for display, or return its links.
 ghost use Rattle.std.specs.Prelude.{◌≡◌, Some, MatchResult, IsUtf8};
+ghost use Rattle.std.specs.Option.{MatchOption};
+ghost use Rattle.ansi_safe.specs.Cells.{cell};
+ghost use Rattle.ansi_columns.specs.declared.shown.Alignment.{Alignment};
+ghost use Rattle.ansi_columns.specs.Fitted.{fitted};
+ghost use Rattle.ansi_columns.specs.Shown.{truncated, padded};
+ghost use Rattle.ansi_calls.specs.Answers.{IsWritten};
 ghost use Rattle.ansi_calls.specs.Columns.{alignment_of, TellsWidth, TellsFitting, TellsColumn};
 ghost use Rattle.ansi_calls.specs.Columns.{Truncates, Pads};
 ghost use Rattle.ansi_calls.specs.Columns.{GivesTruncated, GivesPadded, Slices, GivesSliced};
@@ -8,7 +14,8 @@ ghost use Rattle.ansi_calls.specs.Columns.{GivesTruncatedAt, ExpandsTabs, GivesE
 ghost use Rattle.ansi_calls.specs.Columns.{WritesLink};
 
 use crate::answers::{Answer, NO, NOT_UTF8, OUT_OF_MEMORY, REFUSED, write, write_text};
-use crate::shown::{write_shown, write_slice};
+use crate::shown::{write_bare, write_shown, write_slice};
+use ansi_columns::bare::{Bare, missing_bare, truncate_bare};
 use ansi_columns::fit::fit_shown;
 use ansi_columns::shown::{Alignment, closed_cell, pad_shown, truncate_shown};
 use ansi_columns::sides::{Side, Truncation};
@@ -106,8 +113,22 @@ fn truncate_text<A: Allocator + Copy>(
     let Ok(tail) = closed_cell(alloc, tail) else {
         return Answer::failed(OUT_OF_MEMORY);
     };
-    let shown = truncate_shown(alloc, text, width, tail.as_str());
-    write_shown(alloc, shown, buffer)
+    let tail = tail.as_str();
+    if let Some(answer) = truncate_at_once(text, width, tail, buffer) {
+        return answer;
+    }
+    write_shown(alloc, truncate_shown(alloc, text, width, tail), buffer)
+}
+
+/// The same, with this tail as it is, if nothing but printable ASCII is kept of the text, and there is room
+/// for all. After `None` the buffer is as it was.
+#[inline(always)]
+fn truncate_at_once(text: &str, width: usize, tail: &str, buffer: &mut [u8]) -> Option<Answer>
+    ensures { MatchOption result (buffer.new ≡ buffer.old) (λ answer. IsWritten
+        (truncated (cell text.now) width tail.now) answer buffer.old buffer.new) }
+{
+    let bare = truncate_bare(text, width, tail)?;
+    write_bare(Bare { missing: 0, ..bare }, Alignment::Left, buffer)
 }
 
 /// The text padded to `width` columns. The call is refused if there is no such alignment.
@@ -141,7 +162,26 @@ fn pad_text<A: Allocator + Copy>(
 ) -> Answer
     ensures { GivesPadded text.now width (Some alignment) result buffer.old buffer.new }
 {
+    if let Some(answer) = pad_at_once(text, width, alignment, buffer) {
+        return answer;
+    }
     write_shown(alloc, pad_shown(alloc, text, width, alignment), buffer)
+}
+
+/// The same, if the text is printable ASCII alone, and there is room for all. After `None` the buffer is as
+/// it was.
+#[inline(always)]
+fn pad_at_once(text: &str, width: usize, alignment: Alignment, buffer: &mut [u8]) -> Option<Answer>
+    ensures { MatchOption result (buffer.new ≡ buffer.old) (λ answer. IsWritten
+        (padded (cell text.now) width alignment) answer buffer.old buffer.new) }
+{
+    let missing = missing_bare(text, width)?;
+    let bare = Bare {
+        text,
+        tail: "",
+        missing,
+    };
+    write_bare(bare, alignment, buffer)
 }
 
 /// The text truncated or padded to `width` columns. The call is refused if there is no such
@@ -183,11 +223,31 @@ fn fit_text<A: Allocator + Copy>(
             let Ok(tail) = closed_cell(alloc, tail) else {
                 return Answer::failed(OUT_OF_MEMORY);
             };
-            let shown = fit_shown(alloc, text, width, alignment, tail.as_str());
+            let tail = tail.as_str();
+            if let Some(answer) = fit_at_once(text, width, alignment, tail, buffer) {
+                return answer;
+            }
+            let shown = fit_shown(alloc, text, width, alignment, tail);
             write_shown(alloc, shown, buffer)
         }
         None => Answer::failed(REFUSED),
     }
+}
+
+/// The same, with this tail as it is, if nothing but printable ASCII is kept of the text, and there is room
+/// for all. After `None` the buffer is as it was.
+#[inline(always)]
+fn fit_at_once(
+    text: &str,
+    width: usize,
+    alignment: Alignment,
+    tail: &str,
+    buffer: &mut [u8],
+) -> Option<Answer>
+    ensures { MatchOption result (buffer.new ≡ buffer.old) (λ answer. IsWritten
+        (fitted (cell text.now) width alignment tail.now) answer buffer.old buffer.new) }
+{
+    write_bare(truncate_bare(text, width, tail)?, alignment, buffer)
 }
 
 /// The text truncated to `width` columns at a side. The call is refused if there is no such side.

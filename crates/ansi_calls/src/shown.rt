@@ -4,13 +4,14 @@ ghost use Rattle.std.specs.Prelude.{IfSome, MatchResult};
 ghost use Rattle.std.specs.Option.{MatchOption};
 ghost use Rattle.ansi_str.specs.States.{rendition_of};
 ghost use Rattle.ansi_str.specs.Written.{start, close};
-ghost use Rattle.ansi_columns.specs.Shown.{blanks, shown_bytes, IsLent};
+ghost use Rattle.ansi_columns.specs.Shown.{blanks, between_blanks, shown_bytes, IsLent};
 ghost use Rattle.ansi_columns.specs.Slices.{stretch_bytes, sliced_bytes, IsLentSlice};
 ghost use Rattle.ansi_calls.specs.Answers.{out_of_memory, HasFailed, IsWritten};
 
 use crate::answers::{Answer, OUT_OF_MEMORY, write, write_made, write_text};
 use crate::lists::put;
-use ansi_columns::shown::{Shown, join};
+use ansi_columns::bare::Bare;
+use ansi_columns::shown::{Alignment, Shown, join};
 use ansi_columns::slices::{Sliced, Stretch};
 use ansi_style::state::Style;
 use ansi_style::styles;
@@ -69,6 +70,34 @@ fn write_parts<A: Allocator + Copy>(shown: &Shown<'_, '_, A>, buffer: &mut [u8])
     let place = put_str(close.as_str(), place, buffer);
     let place = put_str(shown.tail, place, buffer);
     Some(put_blanks(shown.missing - before, place, buffer))
+}
+
+/// Writes a bare text and its tail between the missing blanks, if there is room for all of that. After
+/// `None` the buffer is as it was. Doesn't allocate.
+#[inline(always)]
+pub(crate) fn write_bare(
+    bare: Bare<'_, '_>,
+    alignment: Alignment,
+    buffer: &mut [u8],
+) -> Option<Answer>
+    ensures { MatchOption result (buffer.new ≡ buffer.old) (λ answer. IsWritten
+        (between_blanks bare.entry.missing alignment (bare.entry.text.now ++ bare.entry.tail.now))
+        answer buffer.old buffer.new) }
+{
+    let Bare {
+        text,
+        tail,
+        missing,
+    } = bare;
+    let len = missing.checked_add(text.len())?.checked_add(tail.len())?;
+    if buffer.len() < len {
+        return None;
+    }
+    let before = alignment.before_text(missing);
+    let text_at = put_blanks(before, 0, buffer);
+    let tail_at = put_str(text, text_at, buffer);
+    let end = put_str(tail, tail_at, buffer);
+    Some(Answer::done(put_blanks(missing - before, end, buffer)))
 }
 
 /// Writes a slice, or reports out of memory. Allocates only if there is no room for all of it, or its

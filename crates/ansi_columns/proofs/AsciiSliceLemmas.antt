@@ -186,14 +186,34 @@ module _ (x : List ℕ) (all : list_all is_printable x ≡ true) (n : ℕ) (with
   place-is : column_place x n ≡ n
   place-is = ap bytes_of ended-are ∙ bytes-are (take n x) front_all ∙ count
 
-  from-is : bytes_from x n ≡ n
+  pub from-is : bytes_from x n ≡ n
   from-is = ap bytes_of begun-are ∙ bytes-are (take n x) front_all ∙ count
 
-  begun-columns : columns_of (begun n (clusters x)) ≡ n
+  pub begun-columns : columns_of (begun n (clusters x)) ≡ n
   begun-columns = ap columns_of begun-are ∙ columns-are (take n x) front_all ∙ count
 
   ended-columns : columns_of (ended n (clusters x)) ≡ n
   ended-columns = ap columns_of ended-are ∙ columns-are (take n x) front_all ∙ count
+
+-- the end of a slice up to the column b
+pub end-of : (x : List ℕ) (all : list_all is_printable x ≡ true) (a b e : ℕ) → a ≤ length x → a < b → columns x ≡ length x → ((b < length x) × (e ≡ b)) ⊎ ((length x ≤ b) × (e ≡ length x)) → (bytes_up_to x b ≡ e) × (blanks_after x a b ≡ 0)
+end-of x all a b e here ordered columns_x place = elim place [
+  | inl before ↦
+      let within : b ≤ length x = omega (arith, before.0) in
+      let wide : nat_le (columns x) b ≡ false = lt-leb (columns x) b (omega (arith, before.0, columns_x)) in
+      let there : column_place x b ≡ b = place-is x all b within in
+      let whole = ended-columns x all b within in (
+        ap (λ c. if c then length x else column_place x b) wide ∙ there ∙ sym before.1,
+        ap (λ c. if c || nat_lt (column_place x b) (bytes_from x a) then 0 else b - columns_of (ended b (clusters x))) wide
+            ∙ ap (λ c. if c then 0 else b - columns_of (ended b (clusters x))) (le-ltb (column_place x b) (bytes_from x a) (omega (arith, there, from-is x all a here, ordered)))
+            ∙ omega (arith, whole),
+      )
+  | inr past ↦
+      let fits : nat_le (columns x) b ≡ true = le-leb (columns x) b (omega (arith, past.0, columns_x)) in (
+        ap (λ c. if c then length x else column_place x b) fits ∙ sym past.1,
+        ap (λ c. if c || nat_lt (column_place x b) (bytes_from x a) then 0 else b - columns_of (ended b (clusters x))) fits,
+      )
+]
 
 cell-printable : {t : List ℕ} → IsAsciiCell t → list_all is_printable (plain t) ≡ true
 cell-printable {t} is =
@@ -232,27 +252,7 @@ module _ {t : List ℕ} {a b from e to : ℕ} {style style' : Rendition} {link l
   columns_x = columns-printable x all
 
   end : (e ≡ bytes_up_to x b) × (blanks_after x a b ≡ 0) × (a ≤ e) × (e ≤ length x)
-  end = elim closes.place [
-    | inl before ↦
-        let within : b ≤ length x = omega (arith, before.0) in
-        let wide : nat_le (columns x) b ≡ false = lt-leb (columns x) b (omega (arith, before.0, columns_x)) in
-        let there : column_place x b ≡ b = place-is x all b within in
-        let whole = ended-columns x all b within in (
-          before.1 ∙ sym (ap (λ c. if c then length x else column_place x b) wide ∙ there),
-          ap (λ c. if c || nat_lt (column_place x b) (bytes_from x a) then 0 else b - columns_of (ended b (clusters x))) wide
-              ∙ ap (λ c. if c then 0 else b - columns_of (ended b (clusters x))) (le-ltb (column_place x b) (bytes_from x a) (omega (arith, there, from-is x all a here, ordered)))
-              ∙ omega (arith, whole),
-          omega (arith, before.1, ordered),
-          omega (arith, before.0, before.1),
-        )
-    | inr past ↦
-        let fits : nat_le (columns x) b ≡ true = le-leb (columns x) b (omega (arith, past.0, columns_x)) in (
-          past.1 ∙ sym (ap (λ c. if c then length x else column_place x b) fits),
-          ap (λ c. if c || nat_lt (column_place x b) (bytes_from x a) then 0 else b - columns_of (ended b (clusters x))) fits,
-          omega (arith, past.1, inside),
-          omega (arith, past.1),
-        )
-  ]
+  end = (let is = end-of x all a b e here ordered columns_x closes.place in (sym is.0, is.1, elim closes.place [ inl before ↦ omega (arith, before.1, ordered) | inr past ↦ omega (arith, past.1, inside) ], elim closes.place [ inl before ↦ omega (arith, before.0, before.1) | inr past ↦ omega (arith, past.1) ]))
 
   at-front : a ≡ 0 → opened ≡ None
   at-front zero_is = ap (λ c. if c then None else Some (column_place x a)) (eq-eqb a 0 zero_is)

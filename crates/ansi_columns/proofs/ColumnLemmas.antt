@@ -16,7 +16,7 @@ use Rattle.ansi_columns.specs.declared.walks.Walk.{Walk}
 use Rattle.ansi_columns.specs.Views.{seen_char, seen, seen_text, seen_len}
 use Rattle.ansi_columns.specs.Walks.{after, cluster, clusters_after, clusters_from, seen_after, seen_cluster, seen_clusters, IsWalkIn, IsSeenNext, IsFittingTo, SeesUpTo, IsCountedTo}
 use Rattle.ansi_columns.proofs.ClusterLemmas.{clusters-none}
-use Rattle.ansi_columns.proofs.ViewLemmas.{seen_before-start, seen-one, seen-append, seen-chars, part-size, after-split, seen_len-split}
+use Rattle.ansi_columns.proofs.ViewLemmas.{seen_before-start, seen-one, seen-append, seen-chars, part-size, after-split, seen_len-split, seen_len-none}
 use Rattle.ansi_columns.proofs.WalkLemmas.{before-start, walk_boundary, after-past}
 
 pub clusters_from-start : (t : List ℕ) → clusters_from t 0 ≡ clusters (plain t)
@@ -144,3 +144,11 @@ module _ (view : View) (t : List ℕ) (utf8 : IsUtf8 t) (w : Walk) (walk : IsWal
   -- a position that fits, up to which nothing more is seen
   pub sees-up_to : {width : ℕ} (n : ℕ) (r : Option ℕ) → FitsUpTo (seen_text view t) width (seen_len view t n) → seen_len view t w.position ≡ seen_len view t n → MatchOption r (after t w.position ≡ []) (IsSeenNext view t w) → SeesUpTo view t width w.position
   sees-up_to {width} n r fits same next = record { fits = subst (FitsUpTo (seen_text view t) width) (sym same) fits; greatest = seen-greatest r next }
+
+-- the same of the end of what isn't seen and follows a walk
+module _ (view : View) (t : List ℕ) (utf8 : IsUtf8 t) (w v : Walk) (from : IsWalkIn view t w) (to : IsWalkIn view t v) (ordered : w.position ≤ v.position) (left_out : seen_cluster view t w.position v.position ≡ []) where
+  pub seen_len-past : seen_len view t v.position ≡ seen_len view t w.position
+  seen_len-past = seen_len-none view t utf8 w.position v.position ordered (walk_boundary t utf8 w from) (walk_boundary t utf8 v to) left_out
+
+  pub sees-past : {width : ℕ} (r : Option ℕ) → FitsUpTo (seen_text view t) width (seen_len view t w.position) → MatchOption r (after t v.position ≡ []) (IsSeenNext view t v) → SeesUpTo view t width v.position
+  sees-past r fits next = sees-up_to view t utf8 v to w.position r fits seen_len-past next

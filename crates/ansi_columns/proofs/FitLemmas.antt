@@ -1,7 +1,7 @@
 -- What fits of a text into a width: whether it is all of the text, and its end as a function.
-use Rattle.std.proofs.Common.{◌≡◌, ℕ, zero, suc, ◌+◌, ◌-◌, ◌<◌, ◌≤◌, true, false, List, [], ◌∷◌, ◌++◌, length, take, flat_map, encode_utf8_all, nat_le, if◌then◌else◌, refl, sym, ◌∙◌, ap, arith, append-nil, length-append}
+use Rattle.std.proofs.Common.{◌≡◌, ℕ, zero, suc, ◌+◌, ◌-◌, ◌<◌, ◌≤◌, true, false, List, [], ◌∷◌, ◌++◌, length, take, drop, flat_map, encode_utf8_all, nat_le, if◌then◌else◌, refl, sym, ◌∙◌, ap, arith, append-nil, length-append, take-append-drop}
 use Rattle.std.specs.Str.{IsUtf8, chars}
-use Rattle.std.proofs.lemmas.Bool.{le-leb, lt-leb}
+use Rattle.std.proofs.lemmas.Bool.{le-leb, leb-true, lt-leb}
 use Rattle.std.proofs.lemmas.List.{take_at}
 use Rattle.std.proofs.lemmas.List.Sums.{sum_by-cons, sum_by-append}
 use Rattle.std.proofs.lemmas.Str.{scalars-chars}
@@ -68,3 +68,16 @@ fitting-columns {view} {t} {width} {n} m fitting utf8 same =
     let taken = ap (take count) fitting.all ∙ take_at fitting.front (seen_clusters view t n) count refl in
     let end = same ∙ fitting.boundary ∙ ap bytes_of (sym taken) in
     omega (arith, fitting.columns, ap (λ i. columns (take i (seen_text view t))) end, columns-front (seen_text view t) (seen_text-utf8 view t utf8) count, ap columns_of taken)
+
+-- a text that fits ends at the same place in a greater width
+pub fits-wider : {x : List ℕ} {width end : ℕ} (wider : ℕ) → FitsUpTo x width end → nat_le (columns x) width ≡ true → width ≤ wider → FitsUpTo x wider end
+fits-wider {x} {width} wider fit all more =
+    let ks = clusters x in
+    let n = fit.count + 1 in
+    let whole : columns_of (take n ks) + columns_of (drop n ks) ≡ columns_of ks = sym (sum_by-append cluster_width (take n ks) (drop n ks)) ∙ ap columns_of (take-append-drop n ks) in
+    record {
+      count = fit.count;
+      boundary = fit.boundary;
+      fits = omega (arith, fit.fits, more);
+      greatest = λ less. absurd (omega (arith, fit.greatest less, whole, leb-true (columns x) width all));
+    }

@@ -4,7 +4,7 @@ use Rattle.std.specs.List.{list_all}
 use Rattle.std.specs.Str.{IsUtf8, IsAscii, IsCharBoundary}
 use Rattle.std.proofs.lemmas.Bool.{and_from, and_parts}
 use Rattle.std.proofs.lemmas.Grind.{flat_map-append}
-use Rattle.std.proofs.lemmas.List.{drop_at, take_all, take_at, take-append-le}
+use Rattle.std.proofs.lemmas.List.{drop_at, take_all, take_at, take-take}
 use Rattle.std.proofs.lemmas.List.Sums.{sum_by-append}
 use Rattle.std.proofs.lemmas.Str.{chars-append, chars-IsAscii, IsUtf8-from_ascii}
 use Rattle.std.proofs.lemmas.Str.Ascii.{IsAscii-from_all, encodes-IsAscii}
@@ -115,29 +115,50 @@ module _ (t : List ℕ) (utf8 : IsUtf8 t) (x y : List ℕ) (text : plain t ≡ x
 
 -- ---- the walk at the run
 
--- its first bytes
-pub run-bytes : {t w : List ℕ} {passed at i : ℕ} {old ps : List Piece} → IsOverText t w passed at old ps → i ≡ passed → (n : ℕ) → n ≤ length w → take n (drop i t) ≡ take n w
-run-bytes {t} {w} {passed} over offset n within =
-    let run_are = subst (ArePieces (drop passed t)) (over.there ∙ over.first) (pieces_are (drop passed t)) in
-    ap (λ i. take n (drop i t)) offset ∙ ap (take n) run_are.1 ∙ take-append-le n w run_are.0 within
+-- the bytes w of a text are plain, and lie between two offsets
+pub record IsPlainPart (t w : List ℕ) (at next : ℕ) : Type 0 where
+  pub begins : IsCharBoundary t at
+  pub ends : IsCharBoundary t next
+  pub count : next ≡ at + length w
+  pub bytes : take (length w) (drop at t) ≡ w
+  pub plain : list_all is_plain_byte w ≡ true
 
-pub run-walk : (view : View) {t w : List ℕ} {passed at : ℕ} {old ps : List Piece} (front : List Piece) (v : Walk) → IsUtf8 t → pieces_of t ≡ front ++ Text w ∷ ps → list_all is_printable (plain_of front) ≡ true → passed ≡ length (spelled front) → IsOverText t w passed at old ps → IsCharBoundary t at → 0 < length w
-    → v.position ≡ length (plain_of front) → v.offset ≡ passed → v.run_end ≡ at → v.break_state ≡ break_state_of [] → IsWalkIn view t v
-run-walk view {t} {w} {passed} {at} {old} {ps} front v utf8 pieces printable bytes over end some place offset run_end break_state =
+-- so are those of a run
+pub plain-part : {t w : List ℕ} {at next : ℕ} {old ps : List Piece} → IsOverText t w at next old ps → IsCharBoundary t next → IsPlainPart t w at next
+plain-part {t} {w} {at} over ends =
+    let are = subst (ArePieces (drop at t)) (over.there ∙ over.first) (pieces_are (drop at t)) in
+    record {
+      begins = over.begins;
+      ends = ends;
+      count = over.count;
+      bytes = ap (take (length w)) are.1 ∙ take_at w are.0 (length w) refl;
+      plain = are.2.1;
+    }
+
+-- its first bytes
+pub run-bytes : {t w : List ℕ} {at next i : ℕ} → IsPlainPart t w at next → i ≡ at → (n : ℕ) → n ≤ length w → take n (drop i t) ≡ take n w
+run-bytes {t} {w} {at} part offset n within =
+    ap (λ i. take n (drop i t)) offset ∙ sym (take-take n (length w) (drop at t) within) ∙ ap (take n) part.bytes
+
+-- w is at the front of the run
+pub run-walk : (view : View) {t w : List ℕ} {passed at : ℕ} (more : List ℕ) (ps : List Piece) (front : List Piece) (v : Walk) → IsUtf8 t → pieces_of t ≡ front ++ Text (w ++ more) ∷ ps → list_all is_printable (plain_of front) ≡ true → passed ≡ length (spelled front) → IsPlainPart t w passed at
+    → 0 < length w → v.position ≡ length (plain_of front) → v.offset ≡ passed → v.run_end ≡ at → v.break_state ≡ break_state_of [] → IsWalkIn view t v
+run-walk view {t} {w} {passed} {at} more ps front v utf8 pieces printable bytes part some place offset run_end break_state =
     let x = plain_of front in
-    let y = w ++ plain_of ps in
-    let text : plain t ≡ x ++ y = ap plain_of pieces ∙ flat_map-append plain_bytes front (Text w ∷ ps) in
+    let run = w ++ more in
+    let y = run ++ plain_of ps in
+    let filled : 0 < length run = omega (arith, some, length-append w more) in
+    let text : plain t ≡ x ++ y = ap plain_of pieces ∙ flat_map-append plain_bytes front (Text run ∷ ps) in
     let there : offset_of t (length x) ≡ length (spelled front)
-    = ap (bytes_before (length x)) pieces ∙ bytes_before-append front (Text w ∷ ps) ∙ ap (λ n. length (spelled front) + n) (bytes_before-last 0 w ps some) ∙ omega arith in
-    let run_are = subst (ArePieces (drop passed t)) (over.there ∙ over.first) (pieces_are (drop passed t)) in
-    let size : v.run_end - v.offset ≡ length w = omega (arith, over.count, offset, run_end) in
+    = ap (bytes_before (length x)) pieces ∙ bytes_before-append front (Text run ∷ ps) ∙ ap (λ n. length (spelled front) + n) (bytes_before-last 0 run ps filled) ∙ omega arith in
+    let size : v.run_end - v.offset ≡ length w = omega (arith, part.count, offset, run_end) in
     record {
       offset = offset ∙ bytes ∙ sym (ap (offset_of t) place ∙ there);
       run = record {
-        ordered = omega (arith, over.count, offset, run_end);
-        start_boundary = subst (IsCharBoundary t) (sym offset) over.begins;
-        end_boundary = subst (IsCharBoundary t) (sym run_end) end;
-        bytes = ap (λ n. list_all is_plain_byte (take n (drop v.offset t))) size ∙ ap (list_all is_plain_byte) (run-bytes over offset (length w) (omega arith) ∙ take_all (length w) w (omega arith)) ∙ run_are.2.1;
+        ordered = omega (arith, part.count, offset, run_end);
+        start_boundary = subst (IsCharBoundary t) (sym offset) part.begins;
+        end_boundary = subst (IsCharBoundary t) (sym run_end) part.ends;
+        bytes = ap (λ n. list_all is_plain_byte (take n (drop v.offset t))) size ∙ ap (list_all is_plain_byte) (run-bytes part offset (length w) (omega arith) ∙ take_all (length w) w (omega arith)) ∙ part.plain;
       };
       end = λ e. absurd (omega (arith, e, size, some));
       break_state = break_state ∙ front-state view t utf8 x y text printable ∙ ap (λ n. break_state_of (seen_before view t n)) (sym place);

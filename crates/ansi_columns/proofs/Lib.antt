@@ -73,5 +73,7 @@ pub mod EditWrapLemmas
 pub mod PlainCellLemmas
 pub mod PrintableTextLemmas
 pub mod FrontRunLemmas
+pub mod NearCellLemmas
 pub mod PlainFrontLemmas
 pub mod OnlyLineLemmas
+pub mod BareLemmas

@@ -1,5 +1,5 @@
 -- A line that is read up to a walk, by what is seen of the text.
-use Rattle.std.proofs.Common.{◌≡◌, ◌≢◌, ℕ, suc, zero, ◌+◌, ◌-◌, ◌*◌, ◌<◌, ◌≤◌, ◌⊎◌, inl, inr, ⊎_elim, Bool, true, false, ◌==◌, List, [], ◌∷◌, length, map, slice_range, encode_utf8_all, Option, Some, None, if◌then◌else◌, refl, sym, ◌∙◌, ap, ap₂, subst, arith}
+use Rattle.std.proofs.Common.{◌≡◌, ◌≢◌, ℕ, suc, zero, ◌+◌, ◌-◌, ◌*◌, ◌<◌, ◌≤◌, ◌⊎◌, inl, inr, ⊎_elim, Bool, true, false, not, ◌||◌, ◌==◌, List, [], ◌∷◌, length, map, slice_range, encode_utf8_all, Option, Some, None, if◌then◌else◌, refl, sym, ◌∙◌, ap, ap₂, subst, arith}
 use Rattle.std.specs.Str.{IsUtf8, IsCharBoundary}
 use Rattle.std.proofs.lemmas.Bool.{cases_lt}
 use Rattle.ansi_columns.specs.BreakStates.{break_state_of}
@@ -10,7 +10,8 @@ use Rattle.ansi_columns.specs.declared.views.View.TheVariants.{Given, Shown, Lin
 use Rattle.ansi_columns.specs.Views.{seen_len, given_place, IsTight}
 use Rattle.ansi_columns.specs.Walks.{seen_after, seen_cluster, seen_clusters, IsWalkIn, IsTightWalk, AreTightWalks, IsPastCluster, IsPastAscii, IsPrintable, AreClustersIn}
 use Rattle.ansi_columns.specs.Lines.{is_line_end, is_blank, lines_from, given_line, seen_lines_left}
-use Rattle.ansi_columns.specs.Words.{words_after}
+use Rattle.ansi_columns.specs.FirstFit.{is_of_word}
+use Rattle.ansi_columns.specs.Words.{words_after, IsPastLetter, AreLetters, ArePastLetters}
 use Rattle.ansi_columns.proofs.ColumnLemmas.{seen_clusters-end}
 use Rattle.ansi_columns.proofs.LineLemmas.{IsOfWord}
 use Rattle.ansi_columns.proofs.LineWalkLemmas.{IsLineTo, lines_at, line-is_last, line-is_ended, line-goes_on, line-takes, line-is_broken, line-is_left, line-is_begun}
@@ -296,3 +297,47 @@ module _ {view : View} {t : List ℕ} {width : ℕ} {start before word end here 
               (line-is_begun cl width (at start) (at before) (at word) (at end) (at here) columns read.line (at-ordered read.start_is read.here_is begun) c (at next) more first size some past.3 of_word
               (at-other word_is read.start_is later) (ap (seen_len view t) none) wide).1,
         )
+
+-- ---- letters of a word
+
+of_word-parts : (blank ends : Bool) → not (blank || ends) ≡ true → (blank ≡ false) × (ends ≡ false)
+of_word-parts true ends is = cc
+of_word-parts false true is = cc
+of_word-parts false false is = (refl, refl)
+
+of_word : (c : List ℕ) → is_of_word c ≡ true → IsOfWord c
+of_word c is = (let parts = of_word-parts (is_blank c) (is_line_end c) is in record { inside = parts.1; solid = parts.0 })
+
+module _ {view : View} {t : List ℕ} {width : ℕ} {start before word end here : Walk} {columns : ℕ} (utf8 : IsUtf8 t) (read : IsLineRead view t width start before word end here columns) where
+  letters-step : (w later : Walk) (m k n : ℕ) → (last : Walk) × IsLineRead view t width start before word last w (columns + m) → n ≡ m + k → IsPastLetter view t w later k → columns + n ≤ width → IsLineRead view t width start before word later later (columns + n)
+  letters-step w later m k n so_far sum letter room =
+      let total : columns + m + k ≡ columns + n = omega (arith, sum) in
+      subst (IsLineRead view t width start before word later later) total
+      (read-takes utf8 so_far.1 later k letter.past (of_word (seen_cluster view t w.position later.position) letter.of_word) (inr (omega (arith, total, room))))
+
+  letters-up_to : (walks : List (Walk × ℕ)) (later : Walk) (n : ℕ) → AreLetters view t here walks later n → columns + n ≤ width → (last : Walk) × IsLineRead view t width start before word last later (columns + n)
+  letters-up_to [] later n are room =
+      let total : columns ≡ columns + n = omega (arith, are.1) in
+      (end, subst (λ w. IsLineRead view t width start before word end w (columns + n)) (sym are.0) (subst (IsLineRead view t width start before word end here) total read))
+  letters-up_to ((w, m) ∷ earlier) later n are room = (later, letters-step w later m are.1 n (letters-up_to earlier w m are.0 (omega (arith, are.2, room))) are.2 are.3 room)
+
+  -- they are read
+  pub read-letters : (later : Walk) (n : ℕ) → ArePastLetters view t here later n → n ≤ width - columns → 0 < n → IsLineRead view t width start before word later later (columns + n)
+  read-letters later n are room some = by are.0 are.1
+    where
+      by : (walks : List (Walk × ℕ)) → AreLetters view t here walks later n → IsLineRead view t width start before word later later (columns + n)
+      by [] none = absurd (omega (arith, some, none.1))
+      by ((w, m) ∷ earlier) letters =
+          let fits : columns + n ≤ width = omega (arith, room, some) in
+          letters-step w later m letters.1 n (letters-up_to earlier w m letters.0 (omega (arith, letters.2, fits))) letters.2 letters.3 fits
+
+-- the walk after them is further on
+pub letters-further : (view : View) (t : List ℕ) (here : Walk) (walks : List (Walk × ℕ)) (later : Walk) (n : ℕ) → AreLetters view t here walks later n → 0 < n → (here.position < later.position) × (later.position ≤ length (plain t))
+letters-further view t here [] later n are more = absurd (omega (arith, more, are.1))
+letters-further view t here ((w, m) ∷ earlier) later n are more =
+    let past = are.3.past in
+    (omega (arith, past.1, before earlier w m are.0), past.0.within)
+  where
+    before : (walks : List (Walk × ℕ)) (w : Walk) (m : ℕ) → AreLetters view t here walks w m → here.position ≤ w.position
+    before [] w m are = (let same : w.position ≡ here.position = ap (λ (u : Walk). u.position) are.0 in omega (arith, same))
+    before ((v, k) ∷ earlier) w m are = omega (arith, before earlier v k are.0, are.3.past.1)

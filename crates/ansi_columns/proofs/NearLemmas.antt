@@ -41,18 +41,22 @@ sequences-run {t} {w} {at} {ps} so_far pieces rest =
     begins [] v some all = absurd (some refl)
     begins (b ∷ w) v some all = offset_of-plain b ((w ++ v) ++ rest) (and_parts _ _ all).0
 
--- a run of a part at the front of t is one of t
+-- A boundary of a part at the front of t is one of t, and so is a run.
+
+pub boundary-near : {t : List ℕ} {n : ℕ} → IsUtf8 t → IsCharBoundary t n → (i : ℕ) → i ≤ n → IsCharBoundary (take n t) i → IsCharBoundary t i
+boundary-near {t} {n} utf8 part i le here =
+    IsCharBoundary-from_take t i utf8 (omega (arith, le, part.0)) (subst IsUtf8 (take-take i n t le) (IsUtf8-take (take n t) i (IsUtf8-take t n utf8 part) here))
+
 pub IsRun-near : {t : List ℕ} {n start end : ℕ} → IsUtf8 t → IsCharBoundary t n → IsRun (take n t) start end → IsRun t start end
 IsRun-near {t} {n} {start} {end} utf8 part run =
     let size : length (take n t) ≡ n = length-take-le n t part.0 in
     let within : end ≤ n = omega (arith, size, run.end_boundary.0) in
-    let boundary = λ (i : ℕ) (le : i ≤ n) (here : IsCharBoundary (take n t) i). IsCharBoundary-from_take t i utf8 (omega (arith, le, part.0)) (subst IsUtf8 (take-take i n t le) (IsUtf8-take (take n t) i (IsUtf8-take t n utf8 part) here)) in
     let more : n ≡ start + (n - start) = omega (arith, within, run.ordered) in
     let count : end - start ≤ n - start = omega (arith, within) in
     record {
       ordered = run.ordered;
-      start_boundary = boundary start (omega (arith, within, run.ordered)) run.start_boundary;
-      end_boundary = boundary end within run.end_boundary;
+      start_boundary = boundary-near utf8 part start (omega (arith, within, run.ordered)) run.start_boundary;
+      end_boundary = boundary-near utf8 part end within run.end_boundary;
       bytes = ap (list_all is_plain_byte) (sym (ap (λ m. take (end - start) (drop start (take m t))) more ∙ ap (take (end - start)) (drop-take start (n - start) t) ∙ take-take (end - start) (n - start) (drop start t) count)) ∙ run.bytes;
     }
 

@@ -199,7 +199,7 @@ plain-end {t} utf8 so_far none =
     }
 
 -- a text of printable ASCII alone
-printable-plain : (w : List ℕ) → list_all is_printable w ≡ true → list_all is_plain_byte w ≡ true
+pub printable-plain : (w : List ℕ) → list_all is_printable w ≡ true → list_all is_plain_byte w ≡ true
 printable-plain [] all = refl
 printable-plain (b ∷ w) all =
     let both = and_parts (is_printable b) (list_all is_printable w) all in

@@ -1,5 +1,5 @@
 -- The front of a text of a cell that is printable ASCII and SGRs, up to a run: the walk there, what of the run stays too, and where the text is cut if it goes on past the width.
-use Rattle.std.proofs.Common.{◌≡◌, ◌≢◌, ℕ, zero, suc, ◌+◌, ◌-◌, ◌<◌, ◌≤◌, inl, inr, true, false, List, [], ◌∷◌, ◌++◌, length, take, drop, slice_index, slice_range, chars, nat_le, if◌then◌else◌, Some, refl, sym, ◌∙◌, ap, ap₂, subst, arith, length-append, take-add}
+use Rattle.std.proofs.Common.{◌≡◌, ◌≢◌, ℕ, zero, suc, ◌+◌, ◌-◌, ◌<◌, ◌≤◌, inl, inr, true, false, List, [], ◌∷◌, ◌++◌, length, take, drop, slice_index, slice_range, chars, nat_le, if◌then◌else◌, Some, refl, sym, ◌∙◌, ap, ap₂, subst, arith, append_assoc, length-append, take-add, take-append-drop}
 use Rattle.std.specs.List.{list_all}
 use Rattle.std.specs.Str.{IsUtf8, IsAscii, IsCharBoundary}
 use Rattle.std.proofs.Math.Seq.{drop-cons}
@@ -14,7 +14,7 @@ use Rattle.unicode_segmentation.specs.Grapheme.{is_grapheme_break}
 use Rattle.ansi_items.specs.declared.ansitok.Item.{Item}
 use Rattle.ansi_items.specs.declared.ansitok.Kind.TheVariants.{Text as TextKind}
 use Rattle.ansi_items.specs.Bytes.{is_plain_byte}
-use Rattle.ansi_items.specs.Pieces.{Piece, Text, Sequence, LoneEscape, spelling, StandsBefore, ArePieces, pieces_of}
+use Rattle.ansi_items.specs.Pieces.{Piece, Text, Sequence, LoneEscape, spelling, StandsBefore, ArePieces}
 use Rattle.ansi_items.specs.Plain.{plain, plain_bytes, plain_of}
 use Rattle.ansi_items.specs.Scans.{Scan, GivesItem, pieces_left}
 use Rattle.ansi_items.proofs.JoinLemmas.{spelled}
@@ -39,9 +39,10 @@ use Rattle.ansi_columns.specs.Walks.{seen_clusters, IsWalkIn, IsNext, IsPrintabl
 use Rattle.ansi_columns.proofs.AsciiLemmas.{is_printable, printable-below_7F, All-printable_is_ascii, width-single}
 use Rattle.ansi_columns.proofs.ColumnLemmas.{fitting-before, sees-up_to}
 use Rattle.ansi_columns.proofs.FitLemmas.{fitting-columns}
-use Rattle.ansi_columns.proofs.FrontRunLemmas.{fitting-run, fitting-walk, run-bytes, run-walk}
+use Rattle.ansi_columns.proofs.FrontRunLemmas.{IsPlainPart, plain-part, fitting-run, fitting-walk, run-bytes, run-walk}
 use Rattle.ansi_columns.proofs.KeptLemmas.{truncated-front}
 use Rattle.ansi_columns.proofs.MissingLemmas.{IsLack, lack-beside}
+use Rattle.ansi_columns.proofs.NearCellLemmas.{part-near, so_far-near}
 use Rattle.ansi_columns.proofs.PlainCellLemmas.{is_plain_piece, IsPlainSoFar, plain-printable, plain-text}
 use Rattle.ansi_columns.proofs.PrintableLemmas.{slice_range-take, next-ascii, all-index, front-size, printable-at, columns-past, fitting-past, front-fewer, IsPrintable-front}
 use Rattle.ansi_columns.proofs.ShownLemmas.{IsCutTo}
@@ -77,46 +78,53 @@ one_text-through style (b ∷ x) = refl
 
 -- ---- the walk at the run
 
-walk-at : {t w : List ℕ} {width left passed at last : ℕ} {style : Rendition} {old ps : List Piece} (v : Walk) → IsUtf8 t → IsPlainSoFar t width left style last passed old → IsOverText t w passed at old ps → IsCharBoundary t at → 0 < length w
+walk-at : {t w : List ℕ} {width left passed at last : ℕ} {style : Rendition} (more : List ℕ) (ps : List Piece) (v : Walk) → IsUtf8 t → IsPlainSoFar t width left style last passed (Text (w ++ more) ∷ ps) → IsPlainPart t w passed at → 0 < length w
     → v ≡ walk_at_run (width - left) passed at → IsAtRun t width left style v
-walk-at {t} {w} {width} {left} {passed} {at} {style = style} {old} {ps} v utf8 so_far over end some is =
+walk-at {t} {w} {width} {left} {passed} {at} {style = style} more ps v utf8 so_far bytes some is =
     let front = so_far.front in
+    let run = w ++ more in
     let x = plain_of front in
-    let y = w ++ plain_of ps in
+    let y = run ++ plain_of ps in
     let offset : v.offset ≡ passed = ap (λ (u : Walk). u.offset) is in
     let run_end : v.run_end ≡ at = ap (λ (u : Walk). u.run_end) is in
-    let pieces : pieces_of t ≡ front ++ Text w ∷ ps = so_far.all ∙ ap (λ qs. front ++ qs) over.first in
     let printable = plain-printable front so_far.are_plain in
-    let text : plain t ≡ x ++ y = ap plain_of pieces ∙ flat_map-append plain_bytes front (Text w ∷ ps) in
+    let text : plain t ≡ x ++ y = ap plain_of so_far.all ∙ flat_map-append plain_bytes front (Text run ∷ ps) in
     let place : v.position ≡ length x = omega (arith, ap (λ (u : Walk). u.position) is, so_far.count) in
-    let taken = run-bytes over offset in
-    let inside : (n : ℕ) → v.offset + n ≤ v.run_end → n ≤ length w = λ n within. omega (arith, within, over.count, offset, run_end) in
+    let taken = run-bytes bytes offset in
+    let inside : (n : ℕ) → v.offset + n ≤ v.run_end → n ≤ length w = λ n within. omega (arith, within, bytes.count, offset, run_end) in
     let part : (n : ℕ) → IsPrintableFront t v n → list_all is_printable (take n w) ≡ true
-    = λ n bytes. ap (list_all is_printable) (sym (slice_range-take t v.offset n ∙ taken n (inside n bytes.within))) ∙ bytes.bytes in
-    let walk = run-walk Shown front v utf8 pieces printable so_far.bytes over end some place offset run_end (ap (λ (u : Walk). u.break_state) is) in
+    = λ n front. ap (list_all is_printable) (sym (slice_range-take t v.offset n ∙ taken n (inside n front.within))) ∙ front.bytes in
+    let walk = run-walk Shown more ps front v utf8 so_far.all printable so_far.bytes bytes some place offset run_end (ap (λ (u : Walk). u.break_state) is) in
     record {
       is_walk = walk;
-      front = λ n bytes.
-          let within = inside n bytes.within in
+      front = λ n printed.
+          let within = inside n printed.within in
           let whole : take (v.offset + n) t ≡ take v.offset t ++ take n w = take-add v.offset n t ∙ ap (λ u. take v.offset t ++ u) (taken n within) in
-          let utf8_to : IsUtf8 (take v.offset t) = IsUtf8-take t v.offset utf8 (subst (IsCharBoundary t) (sym offset) over.begins) in
-          let ascii : IsAscii (take n w) = IsAscii-from_all (take n w) (All-printable_is_ascii (take n w) (part n bytes)) in
-          let are = front-are t front w n ps (subst (ArePieces t) pieces (pieces_are t)) so_far.are_plain within in
+          let utf8_to : IsUtf8 (take v.offset t) = IsUtf8-take t v.offset utf8 (subst (IsCharBoundary t) (sym offset) bytes.begins) in
+          let ascii : IsAscii (take n w) = IsAscii-from_all (take n w) (All-printable_is_ascii (take n w) (part n printed)) in
+          let are = front-are t front run n ps (subst (ArePieces t) so_far.all (pieces_are t)) so_far.are_plain (omega (arith, within, length-append w more)) in
+          let same : take n run ≡ take n w = take-append-le n w more within in
           let i : length (spelled front) + n ≡ v.offset + n = omega (arith, offset, so_far.bytes) in
           plain-text (front ++ one_text (take n w)) (subst IsUtf8 (sym whole) (IsUtf8-append (take v.offset t) (take n w) utf8_to (IsUtf8-from_ascii (take n w) ascii)))
-          (sym (pieces_of-unique _ _ (subst (λ i. ArePieces (take i t) (front ++ one_text (take n w))) i are)))
-          (list_all-append is_plain_piece front (one_text (take n w)) ∙ and_from _ _ so_far.are_plain (one_text-plain (take n w) (part n bytes)))
+          (sym (pieces_of-unique _ _ (subst (λ i. ArePieces (take i t) (front ++ one_text (take n w))) i (subst (λ u. ArePieces (take (length (spelled front) + n) t) (front ++ one_text u)) same are))))
+          (list_all-append is_plain_piece front (one_text (take n w)) ∙ and_from _ _ so_far.are_plain (one_text-plain (take n w) (part n printed)))
           (so_far.style_is ∙ sym (style_through-append plain_style front (one_text (take n w)) ∙ one_text-through (style_through plain_style front) (take n w)));
-      fitting = λ bytes. subst (λ n. IsFittingTo Shown t width n left) (sym place) (fitting-run t utf8 x y text printable w (plain_of ps) refl some (part 1 bytes) so_far.count);
+      fitting = λ printed.
+          subst (λ n. IsFittingTo Shown t width n left) (sym place) (fitting-run t utf8 x y text printable w (more ++ plain_of ps) (append_assoc w more (plain_of ps)) some (part 1 printed) so_far.count);
       ends = λ ends. fitting-walk t utf8 x y text printable v place walk ends so_far.count;
     }
 
-pub at-run : {t : List ℕ} {width left last : ℕ} {style : Rendition} {old new : Scan} {item : Item} (v : Walk) → IsUtf8 t → IsPlainSoFar t width left style last old.offset (pieces_left old) → GivesItem old item new → old.text ≡ t → item.kind ≡ TextKind
-    → v ≡ walk_at_run (width - left) item.start item.end → IsAtRun t width left style v
-at-run {t} {width} {left} {new = new} {item} v utf8 so_far gives same kind is =
-    let over = over_text gives same refl kind in
-    let end : IsCharBoundary t new.offset = subst (IsCharBoundary t) gives.end (subst (λ u. IsCharBoundary u item.end) same gives.end_boundary) in
-    walk-at v utf8 so_far over end (omega (arith, over.count, gives.start, gives.end, gives.forward)) (is ∙ ap₂ (walk_at_run (width - left)) gives.start gives.end)
+-- the run is that of a part at the front of the text, and may go on after it
+pub at-run : {t near : List ℕ} {width left last : ℕ} {style : Rendition} {old new : Scan} {item : Item} (n : ℕ) (v : Walk) → IsUtf8 t → IsCharBoundary t n → near ≡ take n t → IsPlainSoFar near width left style last old.offset (pieces_left old) → GivesItem old item new → old.text ≡ near
+    → item.kind ≡ TextKind → v ≡ walk_at_run (width - left) item.start item.end → IsAtRun t width left style v
+at-run {t} {near} {width} {left} {last} {style} {old} {new} {item} n v utf8 end near_is so_far gives same kind is =
+    let w = slice_range near item.start item.end in
+    let over : IsOverText near w old.offset new.offset (pieces_left old) (pieces_left new) = over_text gives same refl kind in
+    let ends : IsCharBoundary near new.offset = subst (IsCharBoundary near) gives.end (subst (λ u. IsCharBoundary u item.end) same gives.end_boundary) in
+    let bytes = part-near utf8 end (subst (λ u. IsPlainPart u w old.offset new.offset) near_is (plain-part over ends)) in
+    let whole : near ++ drop n t ≡ t = ap (λ u. u ++ drop n t) near_is ∙ take-append-drop n t in
+    let on = so_far-near (drop n t) (subst (IsPlainSoFar near width left style last old.offset) over.first so_far) in
+    walk-at on.0 on.1 v utf8 (subst (λ u. IsPlainSoFar u width left style last old.offset (Text (w ++ on.0) ∷ on.1)) whole on.2) bytes (omega (arith, over.count, gives.start, gives.end, gives.forward)) (is ∙ ap₂ (walk_at_run (width - left)) gives.start gives.end)
 
 -- a run that goes on past the width
 pub plain-before : {t : List ℕ} {width left : ℕ} {style : Rendition} {v : Walk} → IsAtRun t width left style v → (n : ℕ) × (left < n) × (later : Walk) × IsPastAscii t v n later → IsPlainBefore t width left style v

@@ -337,7 +337,7 @@ AreClustersIn-push view t n (c ∷ x) b are last =
     let same : n + suc (length x) ≡ n + 1 + length x = omega arith in
     (are.0, AreClustersIn-push view t (n + 1) x b are.1 (subst (λ m. seen_clusters view t m ≡ (b ∷ []) ∷ seen_clusters view t (m + 1)) same last))
 
-advanced-place : (w : Walk) (n : ℕ) → ((advanced w n).position ≡ w.position + n) × ((advanced w n).offset ≡ w.offset + n) × ((advanced w n).run_end ≡ w.run_end)
+pub advanced-place : (w : Walk) (n : ℕ) → ((advanced w n).position ≡ w.position + n) × ((advanced w n).offset ≡ w.offset + n) × ((advanced w n).run_end ≡ w.run_end)
 advanced-place w zero = (omega arith, omega arith, refl)
 advanced-place w (suc n) = (refl, refl, refl)
 

@@ -24,7 +24,7 @@ use Rattle.ansi_columns.specs.Columns.{columns as columns_in}
 use Rattle.ansi_columns.specs.Views.{seen, seen_text}
 use Rattle.ansi_columns.specs.declared.walks.Walk.{Walk}
 use Rattle.ansi_columns.specs.Walks.{clusters_after, IsWalkIn, IsCounted, IsCountedTo, EndsAscii, walk_at_run}
-use Rattle.ansi_columns.proofs.FrontRunLemmas.{counted-walk, run-walk}
+use Rattle.ansi_columns.proofs.FrontRunLemmas.{counted-walk, plain-part, run-walk}
 use Rattle.ansi_columns.proofs.AsciiLemmas.{is_printable, All-printable_is_ascii, columns-printable}
 use Rattle.ansi_safe.proofs.FrontLemmas.{prefix_len-take}
 use Rattle.ansi_columns.proofs.PlainCellLemmas.{printable-test}
@@ -102,8 +102,9 @@ module _ {t : List ℕ} {columns : ℕ} {old new : Scan} {item : Item} (v : Walk
   unfolding runs
   walk-printable view =
       let end : IsCharBoundary t new.offset = subst (IsCharBoundary t) gives.end (subst (λ u. IsCharBoundary u item.end) same gives.end_boundary) in
-      run-walk view so_far.front v utf8 pieces so_far.printable so_far.bytes over end (omega (arith, over.count, gives.start, gives.end, gives.forward)) place (ap (λ (u : Walk). u.offset) is ∙ gives.start) (ap (λ (u : Walk). u.run_end) is ∙ gives.end)
-      (ap (λ (u : Walk). u.break_state) is)
+      let whole = pieces ∙ ap (λ w. so_far.front ++ Text w ∷ pieces_left new) (sym (append-nil (slice_range t item.start item.end))) in
+      run-walk view [] (pieces_left new) so_far.front v utf8 whole so_far.printable so_far.bytes (plain-part over end) (omega (arith, over.count, gives.start, gives.end, gives.forward)) place (ap (λ (u : Walk). u.offset) is ∙ gives.start)
+      (ap (λ (u : Walk). u.run_end) is ∙ gives.end) (ap (λ (u : Walk). u.break_state) is)
 
   pub counted-printable : EndsAscii t v → IsCounted t columns v
   unfolding runs

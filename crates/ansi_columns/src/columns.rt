@@ -29,7 +29,7 @@ ghost use Rattle.ansi_columns.specs.Wrapped.{wrapped, IsWrapped};
 
 use crate::addresses::link_at;
 use crate::fit::fit;
-use crate::fits::fitting_front;
+use crate::fits::fitting_end;
 use crate::shown::{Alignment, pad, truncate};
 use crate::sides::{Truncation, truncate_with};
 use crate::slices::slice;
@@ -476,7 +476,7 @@ pub fn fitting(text: &str, width: usize) -> usize
     ensures good_before { IsTrue (is_good_range (plain text.now) 0 (Some result)) }
     ensures good_after { IsTrue (is_good_range (plain text.now) result None) }
 {
-    fitting_front(text, width, View::Shown).walk.position
+    fitting_end(text, width, View::Shown).position
 }
 
 /// Like [`AnsiColumns::ansi_column_of`].

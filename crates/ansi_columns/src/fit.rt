@@ -13,10 +13,12 @@ ghost use Rattle.ansi_columns.specs.Screens.{screen};
 ghost use Rattle.ansi_columns.specs.Shown.{truncated_ending, truncated, KeptStays, missing, closing};
 ghost use Rattle.ansi_columns.specs.Shown.{closed_cell, shown_bytes, IsLent};
 
+use crate::plain_cells::bare_front;
 use crate::shown::{
     Alignment, Shown, TruncatedParts, closed_cell, join, pad_cell, truncated_parts, write_shown,
 };
-use ansi_safe::links::pen_after;
+use ansi_safe::links::{Ending, pen_after};
+use ansi_style::styles;
 use std::alloc::{AllocError, Allocator};
 use std::borrow::CowStr;
 
@@ -82,6 +84,19 @@ fn fit_beside<'t, A: Allocator + Copy>(
         × (missing (truncated (cell text.now) width tail.now) width ≡ 0)
         × (closing (truncated (cell text.now) width tail.now) ≡ []) → IsOk result }
 {
+    if let Some(front) = bare_front(text, width) {
+        let shown = Shown {
+            text: CowStr::Borrowed(text),
+            ending: Ending {
+                link_end: "",
+                style: styles::plain_style(),
+            },
+            tail: "",
+            missing: front.left,
+            alignment,
+        };
+        return join(alloc, shown);
+    }
     let shown = fit_shown(alloc, text, width, alignment, tail)?;
     join(alloc, shown)
 }

@@ -1,23 +1,12 @@
 //! The longest prefix of a text that fits into a width.
-ghost use Rattle.std.specs.Prelude.{◌≡◌, ◌+◌, take, nat_le, IsTrue};
-ghost use Rattle.ansi_columns.specs.Columns.{columns};
+ghost use Rattle.std.specs.Prelude.{ℕ, List, ◌≡◌, ◌-◌, ◌≤◌, nat_le};
+ghost use Rattle.ansi_columns.specs.Columns.{columns, FitsUpTo};
 ghost use Rattle.ansi_columns.specs.Views.{seen_text, seen_len};
 ghost use Rattle.ansi_columns.specs.Walks.{IsWalkIn, IsFitted, SeesUpTo};
 ghost use Rattle.ansi_columns.specs.declared.views.View.{View};
 
 use crate::views::View;
 use crate::walks::Walk;
-
-/// The longest prefix of a text that fits.
-#[derive(Clone, Copy)]
-pub(crate) struct Front {
-    /// The walk at the end of the prefix.
-    pub(crate) walk: Walk,
-    /// Whether the whole text fits.
-    pub(crate) is_all: bool,
-    /// The columns of the width that the prefix leaves.
-    pub(crate) left: usize,
-}
 
 /// A prefix of a text that fits.
 #[derive(Clone, Copy)]
@@ -31,64 +20,68 @@ pub(crate) struct Fitted {
 impl Fitted {
     /// The empty prefix.
     pub(crate) fn start(text: &str, width: usize) -> Fitted
-        ensures { (view : View) → IsFitted view text.now width result }
+        ensures fitted { (view : View) → IsFitted view text.now width result }
+        ensures left { result.left ≡ width }
     {
         Fitted {
             walk: Walk::start(text),
             left: width,
         }
     }
+
+    /// The same prefix, in a width that is less by `columns`.
+    #[inline(always)]
+    pub(crate) fn narrowed(self, columns: usize) -> Fitted
+        requires { columns ≤ self.left }
+        ensures { (view : View) (text : List ℕ) (width : ℕ) → IsFitted view text width self →
+            IsFitted view text (width - columns) result }
+    {
+        Fitted {
+            walk: self.walk,
+            left: self.left - columns,
+        }
+    }
 }
 
-/// The longest prefix of a text that fits into `width` columns. Characters that aren't seen and
-/// follow it belong to it.
-pub(crate) fn fitting_front(text: &str, width: usize, view: View) -> Front
-    ensures walk { IsWalkIn view text.now result.walk }
-    ensures fits { SeesUpTo view text.now width result.walk.position }
-    ensures all { result.is_all ≡ nat_le (columns (seen_text view text.now)) width }
-    ensures left { columns (take (seen_len view text.now result.walk.position)
-        (seen_text view text.now)) + result.left ≡ width }
-    ensures left_by_all { IsTrue result.is_all →
-        columns (seen_text view text.now) + result.left ≡ width }
+/// The end of the longest prefix of a text that fits into `width` columns. Characters that aren't seen
+/// and follow it belong to it.
+pub(crate) fn fitting_end(text: &str, width: usize, view: View) -> Walk
+    ensures walk { IsWalkIn view text.now result }
+    ensures fits { SeesUpTo view text.now width result.position }
 {
-    fitting_front_from(text, width, view, Fitted::start(text, width))
+    let (fitted, _) = longest_from(text, width, view, Fitted::start(text, width));
+    fitted.walk.next_seen(text, view).0
 }
 
-/// The same, after a prefix that fits.
+/// The longest prefix of a text that fits, up to the end of its last cluster, and whether it is all of
+/// the text. `from` is a prefix that fits.
 #[inline(always)]
-pub(crate) fn fitting_front_from(text: &str, width: usize, view: View, from: Fitted) -> Front
+pub(crate) fn longest_from(text: &str, width: usize, view: View, from: Fitted) -> (Fitted, bool)
     requires { IsFitted view text.now width from }
-    ensures walk { IsWalkIn view text.now result.walk }
-    ensures fits { SeesUpTo view text.now width result.walk.position }
-    ensures all { result.is_all ≡ nat_le (columns (seen_text view text.now)) width }
-    ensures left { columns (take (seen_len view text.now result.walk.position)
-        (seen_text view text.now)) + result.left ≡ width }
-    ensures left_by_all { IsTrue result.is_all →
-        columns (seen_text view text.now) + result.left ≡ width }
+    ensures fitted { IsFitted view text.now width result.0 }
+    ensures fits { FitsUpTo (seen_text view text.now) width
+        (seen_len view text.now result.0.walk.position) }
+    ensures all { result.1 ≡ nat_le (columns (seen_text view text.now)) width }
 {
-    let Fitted { mut walk, mut left } = from;
+    let mut fitted = from;
     'clusters: loop {
-        let (later, more) = walk.past_singles(text, left, view);
+        let (later, more) = fitted.walk.past_singles(text, fitted.left, view);
         if more > 0 {
-            left -= more;
-            walk = later;
+            fitted = Fitted {
+                walk: later,
+                left: fitted.left - more,
+            };
             continue;
         }
-        let Some((next, columns)) = walk.read_cluster(text, view) else {
-            return Front {
-                walk: walk.next_seen(text, view).0,
-                is_all: true,
-                left,
-            };
+        let Some((next, columns)) = fitted.walk.read_cluster(text, view) else {
+            return (fitted, true);
         };
-        if left < columns {
-            return Front {
-                walk: walk.next_seen(text, view).0,
-                is_all: false,
-                left,
-            };
+        if fitted.left < columns {
+            return (fitted, false);
         }
-        left -= columns;
-        walk = next;
+        fitted = Fitted {
+            walk: next,
+            left: fitted.left - columns,
+        };
     }
 }

@@ -8,6 +8,7 @@
 #![tactic(auto)]
 
 pub mod addresses;
+pub mod bare;
 mod break_state;
 pub mod columns;
 pub mod edits;

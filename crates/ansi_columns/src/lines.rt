@@ -164,6 +164,15 @@ fn line_or_word(
             // Its printable ASCII may be passed at once too.
             continue;
         }
+        if next_run.end == 0 {
+            let (later, more) = here.past_word(text, width.saturating_sub(columns));
+            if 0 < more {
+                columns += more;
+                here = later;
+                end = later;
+                continue;
+            }
+        }
         let Some((next, more)) = here.next_cluster_before(text, next_run, view) else {
             return Ok((end, None));
         };

@@ -4,6 +4,7 @@
 ghost use Rattle.std.specs.Prelude.{◌≡◌, ◌<◌, ◌≤◌, ℕ, IfSome, MatchOption, IsTrue, length, take, slice_range};
 ghost use Rattle.std.specs.Str.{IsAscii};
 ghost use Rattle.std.specs.List.{list_all};
+ghost use Rattle.ansi_style.specs.Rendition.{plain_style};
 ghost use Rattle.ansi_style.specs.States.{rendition_of};
 ghost use Rattle.ansi_safe.specs.Safe.{is_printable_byte};
 ghost use Rattle.ansi_columns.specs.declared.walks.Walk.{Walk};
@@ -32,8 +33,8 @@ pub(crate) struct PlainFront {
     pub(crate) run: Option<Walk>,
 }
 
-/// The length of the longest text that is looked at. A search for the next sequence of a longer one
-/// could read far past the width, and `widths::width` would read much of it twice.
+/// How many bytes at the front of a text are searched for sequences. A search for the next one of a longer
+/// text could read far past the width, and `widths::width` would read much of it twice.
 pub(crate) const LONGEST: usize = 512;
 
 /// Whether a text is ASCII, and not too long to be looked at.
@@ -137,6 +138,9 @@ pub(crate) fn plain_cell(text: &str, width: usize) -> Option<PlainFront>
     if !is_short_ascii(text) {
         return None;
     }
+    if let Some(front) = bare_front(text, width) {
+        return Some(front);
+    }
     let front = plain_runs(text, width)?;
     match front.run {
         Some(_) => None,
@@ -145,21 +149,20 @@ pub(crate) fn plain_cell(text: &str, width: usize) -> Option<PlainFront>
 }
 
 /// The front of a text of a cell, up to the first run that doesn't fit or isn't printable ASCII.
-/// `None` says nothing. Of a run that has more bytes than columns are left, nothing is tested.
+/// `None` says nothing. Of a run that has more bytes than columns are left, nothing is tested, and of a long
+/// text only the front is looked at.
 pub(crate) fn plain_runs(text: &str, width: usize) -> Option<PlainFront>
     ensures { IfSome result (IsFront text.now width) }
 {
-    if LONGEST < text.len() || begins_otherwise(text) {
+    if begins_otherwise(text) {
         return None;
     }
-    if let Some(front) = bare_front(text, width) {
-        return Some(front);
-    }
+    let near = &text[..text.floor_char_boundary(LONGEST)];
     let mut style = styles::plain_style();
     let mut left = width;
     let mut last = 0;
-    for item in Scanner::new(text) {
-        let piece = &text[item.start..item.end];
+    for item in Scanner::new(near) {
+        let piece = &near[item.start..item.end];
         if item.kind == Kind::Sgr {
             styles::apply(&mut style, piece);
             continue;
@@ -167,7 +170,7 @@ pub(crate) fn plain_runs(text: &str, width: usize) -> Option<PlainFront>
         if item.kind != Kind::Text {
             return None;
         }
-        if left < piece.len() || !is_printable(text, item.start, item.end) {
+        if left < piece.len() || !is_printable(near, item.start, item.end) {
             let run = Walk::at_run(&item, width - left);
             return Some(PlainFront {
                 left,
@@ -178,6 +181,9 @@ pub(crate) fn plain_runs(text: &str, width: usize) -> Option<PlainFront>
         }
         left -= piece.len();
         last = piece.as_bytes()[piece.len() - 1];
+    }
+    if near.len() < text.len() {
+        return None;
     }
     Some(PlainFront {
         left,
@@ -190,8 +196,10 @@ pub(crate) fn plain_runs(text: &str, width: usize) -> Option<PlainFront>
 /// The front of a text of a cell, if that is a text of printable ASCII alone that fits. `None` says
 /// nothing.
 #[inline(always)]
-fn bare_front(text: &str, width: usize) -> Option<PlainFront>
-    ensures { IfSome result (IsFront text.now width) }
+pub(crate) fn bare_front(text: &str, width: usize) -> Option<PlainFront>
+    ensures cell { IfSome result (λ f.
+        IsPlainCell text.now width f.left (rendition_of f.style) f.last) }
+    ensures bare { IfSome result (λ f. IsPlainCell text.now width f.left plain_style f.last) }
 {
     let len = text.len();
     if len == 0 || width < len || !is_printable(text, 0, len) {
@@ -283,12 +291,13 @@ pub(crate) fn plain_cut(
     })
 }
 
-/// Whether each byte from `start` up to `end` is printable ASCII. What follows may be looked at too,
-/// so that a short run is read 16 bytes at a time as well.
+/// Whether each byte from `start` up to `end` is printable ASCII. Up to 16 bytes after it may be looked at
+/// too, so that a short run is read 16 bytes at a time as well.
 pub(crate) fn is_printable(text: &str, start: usize, end: usize) -> bool
     requires ordered { start ≤ end }
     requires within { end ≤ length text.now }
     ensures { result ≡ list_all is_printable_byte (slice_range text.now start end) }
 {
-    end - start <= printable_len(&text.as_bytes()[start..])
+    let near = text.len().min(end.saturating_add(16));
+    end - start <= printable_len(&text.as_bytes()[start..near])
 }

@@ -17,7 +17,8 @@ ghost use Rattle.ansi_safe.specs.Links.{longest_link_end, IsClosed};
 ghost use Rattle.ansi_safe.specs.Safe.{is_safe};
 ghost use Rattle.ansi_safe.specs.declared.policy.Links.TheVariants.{Keep};
 ghost use Rattle.ansi_columns.specs.OneLine.{is_one_line};
-ghost use Rattle.ansi_columns.specs.Columns.{columns};
+ghost use Rattle.ansi_columns.specs.Columns.{columns, FitsUpTo};
+ghost use Rattle.ansi_columns.specs.Views.{seen_text, seen_len};
 ghost use Rattle.ansi_columns.specs.Rows.{cell_row, row_screen, truncated_row, padded_row};
 ghost use Rattle.ansi_columns.specs.Screens.{screen};
 ghost use Rattle.ansi_columns.specs.Shown.{has_tail, truncated_width, truncated_ending};
@@ -28,8 +29,10 @@ ghost use Rattle.ansi_columns.specs.BreakStates.{break_state_of};
 ghost use Rattle.ansi_columns.specs.PlainCells.{IsFront};
 ghost use Rattle.ansi_columns.specs.Walks.{IsWalkIn, IsFitted, SeesUpTo};
 
-use crate::fits::{Fitted, fitting_front, fitting_front_from};
-use crate::plain_cells::{PlainFront, fitted, goes_past, plain_cell, plain_cut, plain_runs};
+use crate::fits::{Fitted, longest_from};
+use crate::plain_cells::{
+    PlainFront, bare_front, fitted, goes_past, plain_cell, plain_cut, plain_runs,
+};
 use crate::views::View;
 use crate::walks::{Walk, first_run};
 use crate::widths;
@@ -103,6 +106,9 @@ pub(crate) fn truncate_beside<'t, A: Allocator + Copy>(
     ensures takes_no_memory { KeptStays text.now width tail.now
         × (truncated_ending (cell text.now) width tail.now ≡ []) → IsOk result }
 {
+    if let Some(_) = bare_front(text, width) {
+        return Ok(CowStr::Borrowed(text));
+    }
     let shown = truncate_shown(alloc, text, width, tail)?;
     join(alloc, shown)
 }
@@ -326,25 +332,59 @@ fn truncation<'a>(text: &str, width: usize, tail: &'a str, padded: bool, from: F
         (n ≡ missing (truncated (cell text.now) width tail.entry.now) width)
         × (closing (truncated (cell text.now) width tail.entry.now) ≡ [])) }
 {
-    let whole = fitting_front_from(text, width, View::Shown, from);
-    let alone = Cut {
-        end: whole.walk,
-        tail: "",
-        missing: Some(whole.left),
-    };
-    if whole.is_all {
-        return alone;
-    }
     let columns = tail_width(tail);
     if width < columns {
-        return alone;
+        let (whole, _) = longest(text, width, from);
+        return Cut {
+            end: whole.walk.next_seen(text, View::Shown).0,
+            tail: "",
+            missing: Some(whole.left),
+        };
     }
-    let front = fitting_front(text, width - columns, View::Shown);
+    let from = if columns <= from.left {
+        from
+    } else {
+        Fitted::start(text, width)
+    };
+    // Up to where the text has to be cut for the tail, and on to see whether it has to.
+    let (front, fits_beside) = longest(text, width - columns, from.narrowed(columns));
+    let on = Fitted {
+        walk: front.walk,
+        left: front.left + columns,
+    };
+    if fits_beside {
+        return Cut {
+            end: on.walk.next_seen(text, View::Shown).0,
+            tail: "",
+            missing: Some(on.left),
+        };
+    }
+    let (whole, is_all) = longest(text, width, on);
+    if is_all {
+        return Cut {
+            end: whole.walk.next_seen(text, View::Shown).0,
+            tail: "",
+            missing: Some(whole.left),
+        };
+    }
+    let end = front.walk.next_seen(text, View::Shown).0;
     Cut {
-        end: front.walk,
+        end,
         tail,
-        missing: is_known_apart(padded, front.walk, tail).then_some(front.left),
+        missing: is_known_apart(padded, end, tail).then_some(front.left),
     }
+}
+
+/// The longest prefix of a text of a cell that fits, after one that does, and whether it is all of the
+/// text.
+fn longest(text: &str, width: usize, from: Fitted) -> (Fitted, bool)
+    requires { IsFitted View.Shown text.now width from }
+    ensures fitted { IsFitted View.Shown text.now width result.0 }
+    ensures fits { FitsUpTo (seen_text View.Shown text.now) width
+        (seen_len View.Shown text.now result.0.walk.position) }
+    ensures all { result.1 ≡ nat_le (columns (seen_text View.Shown text.now)) width }
+{
+    longest_from(text, width, View::Shown, from)
 }
 
 /// The columns of a tail. Those of `…` are known without a walk.

@@ -2,7 +2,7 @@
 //! open where it begins, and closes what is open where it ends.
 ghost use Rattle.std.specs.Prelude.{◌≡◌, ◌≤◌, ◌<◌, ◌↔◌, ◌+◌, ◌^◌, ◌==◌, ◌&&◌, ◌++◌, [], true, length};
 ghost use Rattle.std.specs.Prelude.{chars, nat_lt, nat_le};
-ghost use Rattle.std.specs.Prelude.{if◌then◌else◌, IsTrue, IsOk, IfOk, MatchOption, OnOk};
+ghost use Rattle.std.specs.Prelude.{if◌then◌else◌, IsTrue, IsOk, IfOk, IfSome, MatchOption, OnOk};
 ghost use Rattle.std.specs.Prelude.{string_bytes};
 ghost use Rattle.std.specs.Cow.{cow_str_bytes, IsBorrowedStr};
 ghost use Rattle.std.specs.List.{list_all};
@@ -21,7 +21,7 @@ ghost use Rattle.ansi_columns.specs.Slices.{sliced_bytes, IsLentSlice};
 ghost use Rattle.ansi_columns.specs.Screens.{screen, sliced_screen};
 ghost use Rattle.ansi_columns.specs.Walks.{IsWalk, clusters_from};
 
-use crate::plain_cells::is_ascii;
+use crate::plain_cells::{LONGEST, is_ascii, is_printable};
 use crate::shown::push_blanks;
 use crate::views::View;
 use crate::walks::{Run, Walk};
@@ -86,6 +86,9 @@ pub fn slice_shown<'t, A: Allocator + Copy>(
         × IsTrue (is_sliced_stretch text.now start end) → IsOk result }
 {
     let end = end.unwrap_or(usize::MAX);
+    if let Some(stretch) = bare_stretch(text, start, end) {
+        return Ok(Sliced::Joined(CowStr::Borrowed(stretch)));
+    }
     match cell_of(alloc, text)? {
         CowStr::Borrowed(cell) => slice_cell(alloc, cell, start, end),
         CowStr::Owned(cell) => {
@@ -93,6 +96,31 @@ pub fn slice_shown<'t, A: Allocator + Copy>(
             Ok(Sliced::Joined(CowStr::Owned(slice.into_owned(alloc)?)))
         }
     }
+}
+
+/// The columns of a text from `start` up to `end`, if the text is printable ASCII alone and not long. `None`
+/// says nothing.
+#[inline(always)]
+fn bare_stretch(text: &str, start: usize, end: usize) -> Option<&str>
+    ensures stays { IfSome result (λ _. cell text.now ≡ text.now) }
+    ensures bytes { IfSome result (λ s. s.now ≡ sliced_up_to text.now start end) }
+    ensures lent { IfSome result (λ _. IsTrue (is_stretch text.now start end)) }
+    ensures len { IfSome result (λ s. length s.now ≤ length text.now) }
+{
+    let len = text.len();
+    if LONGEST < len || !ends_printable(text) || !is_printable(text, 0, len) {
+        return None;
+    }
+    if end <= start || len <= start {
+        return Some("");
+    }
+    Some(&text[start..end.min(len)])
+}
+
+/// Whether a text ends with printable ASCII. Most texts that aren't bare don't.
+#[inline(always)]
+fn ends_printable(text: &str) -> bool {
+    matches!(text.as_bytes(), [.., 0x20..=0x7E])
 }
 
 /// A slice that is ready for display, and may be not joined yet. (Own.)

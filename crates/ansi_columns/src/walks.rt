@@ -1,14 +1,15 @@
 //! A walk over the clusters of a plain text, and the width of each cluster.
 ghost use Rattle.std.specs.Prelude.{◌≡◌, ◌+◌, ◌*◌, ◌-◌, ◌^◌, ◌<◌, ◌≤◌, [], ◌∷◌, length, encode_utf8};
-ghost use Rattle.std.specs.Prelude.{ℕ, List, ◌++◌, slice_range, MatchOption, IfSome, IsSomeAnd, IsTrue};
+ghost use Rattle.std.specs.Prelude.{ℕ, List, ◌++◌, slice_range, MatchOption, IfSome, IsSomeAnd, IsTrue, IsFalse};
 ghost use Rattle.std.specs.List.{list_all};
 ghost use Rattle.ansi_search.specs.Offsets.{offset_of};
 ghost use Rattle.ansi_safe.specs.Safe.{is_printable_byte};
 ghost use Rattle.ansi_columns.specs.declared.views.View.{View};
-ghost use Rattle.ansi_columns.specs.BreakStates.{break_state_of};
+ghost use Rattle.ansi_columns.specs.BreakStates.{break_state_of, IsShownSingle};
 ghost use Rattle.ansi_columns.specs.Columns.{cluster_width};
 ghost use Rattle.ansi_columns.specs.Views.{seen_len, IsTight};
 ghost use Rattle.ansi_columns.specs.Walks.{before, after, seen_before, seen_after, seen_cluster};
+ghost use Rattle.ansi_columns.specs.Words.{ArePastLetters};
 ghost use Rattle.ansi_columns.specs.Walks.{IsRun, IsWalkIn, IsWalk, IsAnyWalk, IsTightWalk, IsNext, IsPastCluster, IsPastClusters};
 ghost use Rattle.ansi_columns.specs.Walks.{IsSeenNext, IsPrintable, IsPrintableFront, AreClustersIn, IsPastAscii, is_seen_ascii};
 ghost use Rattle.ansi_columns.specs.Walks.{IsPastFirst, IsPastLast, IsNextRun, EndsAscii, BreaksAfterAscii, walk_at, walk_at_run};
@@ -226,15 +227,42 @@ impl Walk {
         ensures past { IsPastClusters view text.now self result.0 result.1 }
         ensures most { result.1 ≤ most }
     {
-        let run = &text.as_bytes()[self.offset..self.run_end];
-        match run {
+        match &text.as_bytes()[self.offset..self.run_end] {
             [0x20..=0x7E] | [0x20..=0x7E, 0..=0x7F, ..] => {
                 self.past_ascii_clusters(text, most, view)
             }
-            [0x20..=0x7E, ..] if !self.has_single_second(text) => (self, 0),
-            _ if has_second(run) => self.past_letters(text, most),
+            [0x20..=0x7E | 0xC2..=0xEF, ..] => self.past_letters(text, most, true),
             _ => (self, 0),
         }
+    }
+
+    /// The walk after the characters of a word that come next in the run, and their columns, at most
+    /// `most`. Each of them is a cluster by itself. Printable ASCII that more of it follows isn't passed.
+    #[inline(always)]
+    pub(crate) fn past_word(self, text: &str, most: usize) -> (Walk, usize)
+        requires { IsAnyWalk text.now self }
+        ensures past { (view : View) → IsWalkIn view text.now self →
+            ArePastLetters view text.now self result.0 result.1 }
+        ensures most { result.1 ≤ most }
+    {
+        match &text.as_bytes()[self.offset..self.run_end] {
+            [0x21..=0x7E, 0xC2..=0xCB | 0xCE..=0xEF, ..] | [0xC2..=0xEF, ..] => {
+                self.past_word_letters(text, most)
+            }
+            _ => (self, 0),
+        }
+    }
+
+    /// The same, without the test for a beginning that may be passed. (Not inlined, so that lines of
+    /// ASCII keep their registers.)
+    #[inline(never)]
+    fn past_word_letters(self, text: &str, most: usize) -> (Walk, usize)
+        requires { IsAnyWalk text.now self }
+        ensures past { (view : View) → IsWalkIn view text.now self →
+            ArePastLetters view text.now self result.0 result.1 }
+        ensures most { result.1 ≤ most }
+    {
+        self.past_letters(text, most, false)
     }
 
     /// The same for the printable ASCII that comes next in the run.
@@ -275,13 +303,17 @@ impl Walk {
     }
 
     /// The walk after the single characters that come next in the run, and their columns, at most
-    /// `most`. Each of them is a cluster by itself. One before another character isn't passed.
+    /// `most`. Each of them is a cluster by itself. One before a character that isn't single isn't passed.
+    ///
+    /// If no `blanks` are passed, printable ASCII that more of it follows isn't passed either.
     #[inline(always)]
-    fn past_letters(self, text: &str, most: usize) -> (Walk, usize)
+    fn past_letters(self, text: &str, most: usize, blanks: bool) -> (Walk, usize)
         requires { IsAnyWalk text.now self }
         ensures past { (view : View) → IsWalkIn view text.now self →
             IsPastClusters view text.now self result.0 result.1 }
         ensures most { result.1 ≤ most }
+        ensures word { IsFalse blanks → (view : View) → IsWalkIn view text.now self →
+            ArePastLetters view text.now self result.0 result.1 }
     {
         let mut walk = self;
         let mut columns = 0;
@@ -292,13 +324,19 @@ impl Walk {
         let Some(mut width) = single_columns(c) else {
             return (self, 0);
         };
-        'characters: while let Some(next) = chars.next() {
+        'characters: while width <= most - columns {
+            if !blanks && c == ' ' {
+                break;
+            }
+            let Some(next) = chars.next() else {
+                return match walk.past_last(text, c, width) {
+                    Some(later) => (later, columns + width),
+                    None => (walk, columns),
+                };
+            };
             let Some(next_width) = single_columns(next) else {
                 break;
             };
-            if most - columns < width {
-                break;
-            }
             let len = c.len_utf8();
             walk = Walk {
                 position: walk.position + len,
@@ -310,6 +348,9 @@ impl Walk {
             c = next;
             width = next_width;
             if next.is_ascii() && matches!(chars.as_str().as_bytes(), [0..=0x7F, ..]) {
+                if !blanks {
+                    break;
+                }
                 let front = walk.printable_front(text, most - columns);
                 let (later, more) = walk.past_front(text, front);
                 walk = later;
@@ -328,15 +369,23 @@ impl Walk {
         (walk, columns)
     }
 
-    /// Whether the second of the characters that come next in the run is single.
+    /// The walk after the last character of the run, which is single and has `width` columns, if it is a
+    /// cluster by itself. `None` says nothing.
     #[inline(always)]
-    fn has_single_second(self, text: &str) -> bool
-        requires { IsAnyWalk text.now self }
+    fn past_last(self, text: &str, c: char, width: usize) -> Option<Walk>
+        requires walk { IsAnyWalk text.now self }
+        requires next { IsNext text.now self c }
+        requires shown { IsShownSingle c width }
+        ensures past { IfSome result (λ later. (view : View) → IsWalkIn view text.now self →
+            IsPastCluster view text.now self later width) }
+        ensures position { IfSome result (λ later.
+            later.position ≡ self.position + length (encode_utf8 c)) }
     {
-        let mut chars = text[self.offset..self.run_end].chars();
-        match (chars.next(), chars.next()) {
-            (Some(_), Some(second)) => is_single(second),
-            _ => false,
+        let later = self.moved(text, c.len_utf8(), BreakState::after_single(c));
+        match later.next_char(text) {
+            Some(next) if is_single(next) => Some(later),
+            Some(_) => None,
+            None => Some(later),
         }
     }
 

@@ -1,5 +1,6 @@
 //! The examples of the docs of `ansi_columns`, in the same words.
 use ansi_columns::addresses::link_at;
+use ansi_columns::bare::{missing_bare, truncate_bare};
 use ansi_columns::edits::{edit_and_wrap, edit_columns};
 use ansi_columns::fit::{fit, fit_shown};
 use ansi_columns::lines::Lines;
@@ -251,6 +252,20 @@ fn fit_shown_example(rt: HostRuntime) -> Result<(), Fail> {
     let cell = fit_shown(rt.alloc(), "\x1b[31m日本語\x1b[39m", 4, Alignment::Right, "…")?;
     assert!(rt; cell.missing == 1 && cell.tail == "…");
     Ok(())
+}
+
+#[test]
+fn truncate_bare_example(rt: HostRuntime) {
+    let cut = truncate_bare("connection", 5, "…");
+    assert!(rt; matches!(cut, Some(cut) if cut.text == "conn" && cut.tail == "…"));
+    let whole = truncate_bare("disk", 5, "…");
+    assert!(rt; matches!(whole, Some(whole) if whole.text == "disk" && whole.missing == 1));
+}
+
+#[test]
+fn missing_bare_example(rt: HostRuntime) {
+    assert!(rt; missing_bare("disk", 6) == Some(2) && missing_bare("disk", 3) == Some(0));
+    assert!(rt; missing_bare("\x1b[1mdisk", 6) == None);
 }
 
 #[test]

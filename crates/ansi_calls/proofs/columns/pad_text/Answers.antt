@@ -1,4 +1,4 @@
-use Rattle.std.proofs.Common.{◌≡◌, [], length, ◌&&◌, ◌==◌, IsTrue}
+use Rattle.std.proofs.Common.{◌≡◌, Some, subst, [], length, ◌&&◌, ◌==◌, IsTrue}
 use Rattle.std.proofs.lemmas.Bool.{and_parts, eqb-true}
 use Rattle.std.proofs.lemmas.List.{nil_from_length}
 use Rattle.std.proofs.lemmas.Result.{IfOk-weaker}
@@ -21,4 +21,5 @@ returns g c =
     let parts = and_parts (is_cell t) (lack == 0 && length (closing (cell t)) == 0) all in
     let both = and_parts (lack == 0) (length (closing (cell t)) == 0) parts.1 in
     (cell-stays t c.utf8.text parts.0, eqb-true _ 0 both.0, nil_from_length _ (eqb-true _ 0 both.1)) in
-    Gives-shown no _ _ c.pad_shown.result _ _ _ c.pad_shown.ensures.bytes (λ all. c.pad_shown.ensures.takes_no_memory (stays all).0) (λ all. IfOk-weaker c.pad_shown.result _ _ (λ s iff. iff.1 (stays all)) c.pad_shown.ensures.borrowed) c.write_shown.ensures
+    subst (λ old. GivesPadded t c.args.width (Some c.args.alignment) c.write_shown.result old c.write_shown.new.buffer) c.in_default.ensures
+    (Gives-shown no _ _ c.pad_shown.result _ _ _ c.pad_shown.ensures.bytes (λ all. c.pad_shown.ensures.takes_no_memory (stays all).0) (λ all. IfOk-weaker c.pad_shown.result _ _ (λ s iff. iff.1 (stays all)) c.pad_shown.ensures.borrowed) c.write_shown.ensures)

@@ -4,7 +4,7 @@ use Rattle.std.proofs.lemmas.Bool.{eqb-false}
 use Rattle.std.proofs.lemmas.Bool.Decides.{nat_tests}
 use Rattle.ansi_items.proofs.PlainLemmas.{length-plain}
 use Rattle.ansi_columns.specs.Walks.{IsTightWalk}
-use Rattle.ansi_columns.proofs.LineReadLemmas.{read-printable, read-is_last, read-is_ended, read-blank, read-takes, read-is_broken, read-is_left, read-is_begun}
+use Rattle.ansi_columns.proofs.LineReadLemmas.{read-printable, read-is_last, read-is_ended, read-blank, read-takes, read-is_broken, read-is_left, read-is_begun, read-letters, letters-further}
 use Rattle.ansi_columns.proofs.PrintableLemmas.{past-some}
 use Rattle.ansi_columns.proofs.lines.line_or_word.Goals.{then-is_gap, else-is_gap+then-columns-more, then-here-start, else-here-start}
 use Rattle.ansi_columns.proofs.lines.line_or_word.Goals as goal
@@ -90,6 +90,28 @@ clusters-preserved-then-is_at_next_run c =
     let utf8 : IsUtf8 c.args.text.now = search rules in
     let inv = read-printable utf8 c.clusters.invariant c.past_ascii-len.ensures.past (omega (arith, c.past_ascii-len.ensures.most)) (c.words_after.ensures.walks c.args.view c.clusters.invariant.here_is c.clusters.invariant.words_are) c.words_after.ensures.positions in
     inv
+
+-- after letters of a word
+
+pub past_word-more-requires : goal.past_word-more-requires
+past_word-more-requires c =
+    let utf8 : IsUtf8 c.args.text.now = search rules in
+    let inv = read-printable utf8 c.clusters.invariant c.past_ascii-len.ensures.past (omega (arith, c.past_ascii-len.ensures.most)) (c.words_after.ensures.walks c.args.view c.clusters.invariant.here_is c.clusters.invariant.words_are) c.words_after.ensures.positions in
+    (c.args.view, inv.here_is.walk)
+
+pub clusters-smaller-then-more-gt0 : goal.clusters-smaller-then-more-gt0
+clusters-smaller-then-more-gt0 c =
+    let utf8 : IsUtf8 c.args.text.now = search rules in
+    let inv = read-printable utf8 c.clusters.invariant c.past_ascii-len.ensures.past (omega (arith, c.past_ascii-len.ensures.most)) (c.words_after.ensures.walks c.args.view c.clusters.invariant.here_is c.clusters.invariant.words_are) c.words_after.ensures.positions in
+    let letters = c.past_word-more.ensures.past c.args.view inv.here_is.walk in
+    let further = letters-further c.args.view c.args.text.now c.past_ascii-len.result.0 letters.0 c.past_word-more.result.0 c.past_word-more.result.1 letters.1 c.if-more-gt0.true in
+    omega (arith, further.0, further.1, c.past_ascii-len.ensures.past.position)
+
+pub clusters-preserved-then-more-gt0 : goal.clusters-preserved-then-more-gt0
+clusters-preserved-then-more-gt0 c =
+    let utf8 : IsUtf8 c.args.text.now = search rules in
+    let inv = read-printable utf8 c.clusters.invariant c.past_ascii-len.ensures.past (omega (arith, c.past_ascii-len.ensures.most)) (c.words_after.ensures.walks c.args.view c.clusters.invariant.here_is c.clusters.invariant.words_are) c.words_after.ensures.positions in
+    read-letters utf8 inv c.past_word-more.result.0 c.past_word-more.result.1 (c.past_word-more.ensures.past c.args.view inv.here_is.walk) (omega (arith, c.past_word-more.ensures.most)) c.if-more-gt0.true
 
 -- nothing is read
 

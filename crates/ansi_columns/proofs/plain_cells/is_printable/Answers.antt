@@ -1,6 +1,6 @@
-use Rattle.std.proofs.Common.{◌≡◌, ◌-◌, ◌∙◌, ap, arith, drop, length, nat_le}
-use Rattle.std.specs.List.{prefix_len}
-use Rattle.std.proofs.lemmas.List.{length-drop, take_all}
+use Rattle.std.proofs.Common.{◌≡◌, ◌-◌, ◌≤◌, ◌∙◌, ap, arith, drop, length, nat_le, take}
+use Rattle.std.specs.List.{list_all, prefix_len}
+use Rattle.std.proofs.lemmas.List.{length-drop, length-take-le, take-take}
 use Rattle.ansi_columns.proofs.AsciiLemmas.{is_printable}
 use Rattle.ansi_columns.proofs.PrintableTextLemmas.{printable-front}
 use Rattle.ansi_columns.proofs.plain_cells.is_printable.Goals as goal
@@ -9,8 +9,11 @@ pub returns : goal.returns
 returns c =
     let start = c.args.start in
     let n = c.args.end - start in
-    let bytes = c.as_bytes.result.now in
+    let m = c.min-near.result - start in
     let x = drop start c.args.text.now in
-    let front : c.printable_len.result ≡ prefix_len is_printable x
-    = c.printable_len.ensures ∙ ap (prefix_len is_printable) (take_all (length bytes - start) (drop start bytes) (omega (arith, length-drop start bytes)) ∙ ap (drop start) c.as_bytes.ensures.value) in
-    ap (nat_le n) front ∙ printable-front n x (omega (arith, length-drop start c.args.text.now))
+    let size : length x ≡ length c.args.text.now - start = length-drop start c.args.text.now in
+    let within : m ≤ length x = omega (arith, size, c.min-near.ensures) in
+    let inside : n ≤ m = omega (arith, c.min-near.ensures, c.saturating_add.ensures, c.requires.within) in
+    let front : c.printable_len.result ≡ prefix_len is_printable (take m x)
+    = c.printable_len.ensures ∙ ap (λ bytes. prefix_len is_printable (take m (drop start bytes))) c.as_bytes.ensures.value in
+    ap (nat_le n) front ∙ printable-front n (take m x) (omega (arith, length-take-le m x within, inside)) ∙ ap (list_all is_printable) (take-take n m x inside)

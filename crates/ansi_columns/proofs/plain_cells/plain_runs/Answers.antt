@@ -1,23 +1,28 @@
-use Rattle.std.proofs.Common.{◌≡◌, ◌-◌, length, slice_index, sym, ◌∙◌, ap, subst, arith}
+use Rattle.std.proofs.Common.{◌≡◌, ◌-◌, length, take, slice_index, sym, ◌∙◌, ap, subst, arith}
 use Rattle.std.specs.List.{list_all}
+use Rattle.std.specs.Str.{IsUtf8}
 use Rattle.std.proofs.lemmas.Bool.{not-false}
+use Rattle.std.proofs.lemmas.List.{length-take-le, take_all}
+use Rattle.std.proofs.lemmas.Str.{IsUtf8-take}
 use Rattle.ansi_items.specs.declared.ansitok.Kind.TheVariants.{Sgr}
 use Rattle.ansi_items.specs.Scans.{pieces_left}
 use Rattle.ansi_items.proofs.StepLemmas.{kind_is_text}
 use Rattle.ansi_style.specs.Rendition.{plain_style}
 use Rattle.ansi_search.proofs.OffsetLemmas.{item_range, over_text, over_mark}
 use Rattle.ansi_safe.proofs.LinkLemmas.{is_kind}
+use Rattle.ansi_style.specs.States.{rendition_of}
+use Rattle.ansi_columns.specs.PlainCells.{IsPlainCell}
 use Rattle.ansi_columns.proofs.AsciiLemmas.{is_printable}
 use Rattle.ansi_columns.proofs.PlainCellLemmas.{IsPlainSoFar, plain-begin, plain-run, plain-sgr, plain-end}
 use Rattle.ansi_columns.proofs.PlainFrontLemmas.{at-run}
 use Rattle.ansi_columns.proofs.plain_cells.plain_runs.Goals as goal
 
 pub range-piece-requires : goal.range-piece-requires
-range-piece-requires c = item_range c.in-Some-item.ensures.steps c.loop-item.invariant.text
+range-piece-requires c = item_range c.in-Some.ensures.steps c.loop-item.invariant.text
 
 pub loop-item-init : goal.loop-item-init
 loop-item-init c =
-    let t = c.args.text.now in
+    let t = c.range-near.result.now in
     let width = c.args.width in
     let start = c.into_iter-item-iterator.result in
     let begins : start ≡ record { text = t; offset = 0 } = c.into_iter-item-iterator.ensures.into_iter_gives ∙ c.new-item-items.ensures.start in
@@ -30,7 +35,7 @@ loop-item-init c =
 -- over an SGR
 pub loop-item-preserved-then-eq : goal.loop-item-preserved-then-eq
 loop-item-preserved-then-eq c =
-    let gives = c.in-Some-item.ensures.steps in
+    let gives = c.in-Some.ensures.steps in
     let inv = c.loop-item.invariant in
     let kind = is_kind Sgr c.if-eq.ensures in
     record { text = gives.text ∙ inv.text; so_far = plain-sgr inv.so_far (over_mark gives inv.text c.range-piece.ensures.value (λ e. cc)) kind c.apply.ensures }
@@ -38,7 +43,7 @@ loop-item-preserved-then-eq c =
 -- over a run
 pub loop-item-preserved : goal.loop-item-preserved
 loop-item-preserved c =
-    let gives = c.in-Some-item.ensures.steps in
+    let gives = c.in-Some.ensures.steps in
     let inv = c.loop-item.invariant in
     let over = over_text gives inv.text c.range-piece.ensures.value (kind_is_text (sym (not-false _ (sym c.if-ne.ensures)))) in
     record {
@@ -47,12 +52,26 @@ loop-item-preserved c =
           (ap (λ b. slice_index b (length c.range-piece.result.now - 1)) c.as_bytes.ensures.value);
     }
 
--- at a run that doesn't fit
+-- at a run that doesn't fit, which may go on after the part
 
 pub returns-then-left-piece : goal.returns-then-left-piece
 returns-then-left-piece c =
+    let t = c.args.text.now in
+    let n = c.floor_char_boundary.result in
+    let count : n - 0 ≡ n = omega arith in
+    let near : c.range-near.result.now ≡ take n t = c.range-near.ensures.value ∙ ap (λ m. take m t) count in
     let inv = c.loop-item.invariant in
-    at-run _ c.utf8.text inv.so_far c.in-Some-item.ensures.steps inv.text (kind_is_text (sym (not-false _ (sym c.if-ne.ensures)))) c.at_run-run.ensures
+    at-run n _ c.utf8.text c.floor_char_boundary.ensures.boundary near inv.so_far c.in-Some.ensures.steps inv.text (kind_is_text (sym (not-false _ (sym c.if-ne.ensures)))) c.at_run-run.ensures
 
+-- the part is the text
 pub returns : goal.returns
-returns c = plain-end c.utf8.text c.loop-item.invariant.so_far c.in-None.ensures.steps.2
+returns c =
+    let t = c.args.text.now in
+    let n = c.floor_char_boundary.result in
+    let count : n - 0 ≡ n = omega arith in
+    let near : c.range-near.result.now ≡ take n t = c.range-near.ensures.value ∙ ap (λ m. take m t) count in
+    let boundary = c.floor_char_boundary.ensures.boundary in
+    let size : length c.range-near.result.now ≡ n = ap length near ∙ length-take-le n t boundary.0 in
+    let whole : t ≡ c.range-near.result.now = sym (near ∙ take_all n t (omega (arith, size, c.if-near-text.false))) in
+    let utf8 = subst IsUtf8 (sym near) (IsUtf8-take t n c.utf8.text boundary) in
+    subst (λ u. IsPlainCell u c.args.width c.loop-item.left (rendition_of c.loop-item.style) c.loop-item.last) (sym whole) (plain-end utf8 c.loop-item.invariant.so_far c.in-None.ensures.steps.2)

@@ -7,6 +7,6 @@ use Rattle.ansi_columns.proofs.plain_cells.plain_runs.Given as goal
 -- what was passed is printable ASCII and SGRs
 abbrev pub invariant-loop-item : goal.invariant-loop-item
 invariant-loop-item l = record {
-  text : l.item-iterator.text ≡ l.text;
-  so_far : IsPlainSoFar l.text l.width l.left (rendition_of l.style) l.last l.item-iterator.offset (pieces_left l.item-iterator);
+  text : l.item-iterator.text ≡ l.near;
+  so_far : IsPlainSoFar l.near l.width l.left (rendition_of l.style) l.last l.item-iterator.offset (pieces_left l.item-iterator);
 }

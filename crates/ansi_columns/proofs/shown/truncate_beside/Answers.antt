@@ -1,7 +1,18 @@
-use Rattle.std.proofs.Common.{length, ap, ◌∙◌, arith}
+use Rattle.std.proofs.Common.{length, ap, sym, ◌∙◌, append-nil, arith}
 use Rattle.std.proofs.lemmas.Bool.{false≢true}
 use Rattle.std.proofs.lemmas.Result.{IfOk-weaker}
+use Rattle.ansi_columns.proofs.BareLemmas.{bare-fits, bare-kept}
 use Rattle.ansi_columns.proofs.shown.truncate_beside.Goals as goal
+
+-- the text is printable ASCII alone, and fits
+
+pub returns-in-Some-clause-bytes : goal.returns-in-Some-clause-bytes
+returns-in-Some-clause-bytes g c = sym (append-nil c.args.text.now) ∙ (bare-fits c.args.tail.now c.utf8.text c.in-Some.ensures.bare).truncated_is
+
+pub returns-in-Some-clause-borrowed : goal.returns-in-Some-clause-borrowed
+returns-in-Some-clause-borrowed g c = (λ _. bare-kept c.args.tail.now c.utf8.text c.in-Some.ensures.bare, λ _. tt)
+
+-- it isn't
 
 pub returns-clause-bytes : goal.returns-clause-bytes
 returns-clause-bytes g c = IfOk-weaker c.join.result _ _ (λ s is. is ∙ c.in_ok-shown.ensures.bytes) c.join.ensures.bytes

@@ -5,6 +5,23 @@ use Rattle.ansi_columns.proofs.OneLineLemmas.{cell-prints}
 use Rattle.ansi_columns.proofs.SliceCellLemmas.{IsCellUpTo, cell-sliced, cell-blanks, cell-stretch, cell-borrowed}
 use Rattle.ansi_columns.proofs.slices.slice_shown.Goals as goal
 
+-- the text is printable ASCII alone
+
+pub returns-in-Some-clause-bytes : goal.returns-in-Some-clause-bytes
+returns-in-Some-clause-bytes g c =
+    let is = c.in-Some.ensures in
+    let cut : IsCellUpTo c.args.text.now c.args.end c.args.text.now c.unwrap_or-end.result = record { utf8 = c.utf8.text; size = search rules; text = sym is.stays; up_to = c.unwrap_or-end.ensures } in
+    is.bytes ∙ cell-sliced c.args.start cut
+
+pub returns-in-Some-clause-borrowed : goal.returns-in-Some-clause-borrowed
+returns-in-Some-clause-borrowed g c =
+    let is = c.in-Some.ensures in
+    let cut : IsCellUpTo c.args.text.now c.args.end c.args.text.now c.unwrap_or-end.result = record { utf8 = c.utf8.text; size = search rules; text = sym is.stays; up_to = c.unwrap_or-end.ensures } in
+    (λ _. (is.stays, subst IsTrue (cell-stretch c.args.start cut is.stays) is.lent), λ _. tt)
+
+pub returns-in-Some-clause-len : goal.returns-in-Some-clause-len
+returns-in-Some-clause-len g c = omega (arith, c.in-Some.ensures.len, ap length c.in-Some.ensures.stays)
+
 -- the cell is borrowed, so it is the text
 
 pub slice_cell-requires : goal.slice_cell-requires

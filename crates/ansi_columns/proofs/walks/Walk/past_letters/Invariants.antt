@@ -1,8 +1,9 @@
-use Rattle.std.proofs.Common.{◌≡◌, ◌≤◌, ◌-◌, ◌++◌, length, slice_range, encode_utf8}
+use Rattle.std.proofs.Common.{◌≡◌, ◌≤◌, ◌-◌, ◌++◌, length, slice_range, encode_utf8, IsFalse}
 use Rattle.ansi_items.specs.Plain.{plain}
 use Rattle.ansi_columns.specs.declared.views.View.{View}
 use Rattle.ansi_columns.specs.BreakStates.{IsShownSingle}
 use Rattle.ansi_columns.specs.Walks.{IsWalkIn, IsPastClusters}
+use Rattle.ansi_columns.specs.Words.{ArePastLetters}
 use Rattle.ansi_columns.proofs.walks.Walk.past_letters.Given as goal
 
 -- each character before the walk is a cluster by itself, and c, which is single, is next
@@ -10,6 +11,7 @@ abbrev pub invariant-characters : goal.invariant-characters
 invariant-characters l = record {
   past : (view : View) → IsWalkIn view l.text l.fn.self → IsPastClusters view l.text l.fn.self l.walk l.columns;
   most : l.columns ≤ l.most;
+  word : IsFalse l.blanks → (view : View) → IsWalkIn view l.text l.fn.self → ArePastLetters view l.text l.fn.self l.walk l.columns;
   rest : slice_range l.text l.walk.offset l.walk.run_end ≡ encode_utf8 l.c ++ l.chars.rest.now;
   shown : IsShownSingle l.c l.width;
 }

@@ -1,0 +1,11 @@
+use Rattle.std.proofs.Common.{◌≡◌, List, ℕ, ◌++◌, subst, ◌∙◌}
+use Rattle.std.specs.Option.{MatchOption}
+use Rattle.ansi_columns.specs.declared.shown.Alignment.TheVariants.{Left}
+use Rattle.ansi_calls.specs.Answers.{IsWritten}
+use Rattle.ansi_columns.proofs.ShownLemmas.{between-none}
+use Rattle.ansi_calls.proofs.columns.truncate_at_once.Goals as goal
+
+pub returns : goal.returns
+returns c =
+    let written = λ (u : List ℕ). MatchOption c.write_bare.result (c.write_bare.new.buffer ≡ c.args.buffer.now) (λ answer. IsWritten u answer c.args.buffer.now c.write_bare.new.buffer) in
+    subst written (between-none Left (c.in_ok-bare.bare.text.now ++ c.in_ok-bare.bare.tail.now) ∙ c.in_ok-bare.ensures.truncated) c.write_bare.ensures
