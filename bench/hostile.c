@@ -92,7 +92,8 @@ static size_t pen(struct bytes t, size_t n, struct bytes p) {
     (void)n;
     (void)p;
     ansi_str_pen_after(t.at, t.len, &open);
-    return len_of(ansi_str_pen_start(t.at, t.len, NULL, 0)) + len_of(ansi_str_pen_end(t.at, t.len, NULL, 0));
+    size_t start = len_of(ansi_str_pen_start(t.at, t.len, NULL, 0)), end = len_of(ansi_str_pen_end(t.at, t.len, NULL, 0));
+    return start == SIZE_MAX || end == SIZE_MAX ? SIZE_MAX : start + end;
 }
 static size_t matches(struct bytes t, size_t n, struct bytes p) {
     (void)n;
