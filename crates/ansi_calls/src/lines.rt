@@ -18,13 +18,12 @@ use ansi_columns::line_walks::{LineWalk, next_line, walk_lines};
 use ansi_columns::lines::Lines;
 use ansi_columns::wrap::indents::{Wrap, wrap_with as wrapped_with};
 use ansi_columns::wrap::{AnsiWrap, only_line, wrap as wrapped};
-use ansi_safe::cells::paragraph_of;
+use ansi_safe::cells::is_paragraph;
 use ansi_safe::printable::printable_len;
 use ansi_safe::utf8::from_utf8;
 use ansi_str::AnsiStr;
 use ansi_style::styles;
 use std::alloc::Allocator;
-use std::borrow::CowStr;
 
 /// An entry for a line: where it begins and ends, in bytes of the plain text.
 #[repr(C)]
@@ -51,7 +50,7 @@ pub fn wrap<A: Allocator + Copy>(
     if is_bare_line(text, width) {
         return write_list(text.as_bytes(), &[text.len()], buffer, ends);
     }
-    if is_bare_paragraph(alloc, text) {
+    if is_bare_paragraph(text) {
         return write_bare_lines(alloc, text, width, buffer, ends);
     }
     let lines = wrapped(alloc, text, width);
@@ -154,12 +153,12 @@ fn write_indented<A: Allocator + Copy>(
     )
 }
 
-/// Whether a text has no ESC and is its own paragraph. If it is, nothing is allocated.
-fn is_bare_paragraph<A: Allocator>(alloc: A, text: &str) -> bool
+/// Whether a text has no ESC and is its own paragraph.
+fn is_bare_paragraph(text: &str) -> bool
     ensures { result
         ≡ not (has_escape text.now || not (bytes_eq (paragraph text.now) text.now)) }
 {
-    !text.ansi_has_any() && matches!(paragraph_of(alloc, text), Ok(CowStr::Borrowed(_)))
+    !text.ansi_has_any() && is_paragraph(text)
 }
 
 /// Writes the lines of a paragraph without ESC, and where each ends, if there is room for all of

@@ -18,6 +18,7 @@ pub mod KeptLemmas
 pub mod ClusterWalkLemmas
 pub mod PrintableLemmas
 pub mod SingleWalkLemmas
+pub mod LetterLemmas
 pub mod AddressLemmas
 pub mod KindLemmas
 pub mod LineLemmas

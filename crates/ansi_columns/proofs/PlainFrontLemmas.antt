@@ -1,11 +1,11 @@
 -- The front of a text of a cell that is printable ASCII and SGRs, up to a run: the walk there, what of the run stays too, and where the text is cut if it goes on past the width.
-use Rattle.std.proofs.Common.{◌≡◌, ◌≢◌, ℕ, zero, suc, ◌+◌, ◌-◌, ◌<◌, ◌≤◌, inl, inr, true, false, List, [], ◌∷◌, ◌++◌, length, take, drop, slice_index, slice_range, chars, nat_le, if◌then◌else◌, Some, refl, sym, ◌∙◌, ap, ap₂, subst, arith, append_assoc, length-append, take-add, take-append-drop}
+use Rattle.std.proofs.Common.{◌≡◌, ◌≢◌, ℕ, Bool, zero, suc, ◌+◌, ◌-◌, ◌<◌, ◌≤◌, inl, inr, true, false, List, [], ◌∷◌, ◌++◌, length, take, drop, slice_index, slice_range, chars, nat_le, if◌then◌else◌, Some, refl, sym, ◌∙◌, ap, ap₂, subst, arith, append_assoc, length-append, take-add, take-append-drop}
 use Rattle.std.specs.List.{list_all}
 use Rattle.std.specs.Str.{IsUtf8, IsAscii, IsCharBoundary}
 use Rattle.std.proofs.Math.Seq.{drop-cons}
 use Rattle.std.proofs.lemmas.Bool.{and_from, and_parts, cases_lt, lt-leb}
 use Rattle.std.proofs.lemmas.Grind.{flat_map-append}
-use Rattle.std.proofs.lemmas.List.{take-append-le, take-take}
+use Rattle.std.proofs.lemmas.List.{take_all, length-drop, drop_at, drop-drop, drop-take, take-append-le, take-take}
 use Rattle.std.proofs.lemmas.List.Folds.{list_all-append}
 use Rattle.std.proofs.lemmas.List.Sums.{sum_by-append}
 use Rattle.std.proofs.lemmas.Str.{IsUtf8-append, IsUtf8-from_ascii, IsUtf8-take}
@@ -14,7 +14,7 @@ use Rattle.unicode_segmentation.specs.Grapheme.{is_grapheme_break}
 use Rattle.ansi_items.specs.declared.ansitok.Item.{Item}
 use Rattle.ansi_items.specs.declared.ansitok.Kind.TheVariants.{Text as TextKind}
 use Rattle.ansi_items.specs.Bytes.{is_plain_byte}
-use Rattle.ansi_items.specs.Pieces.{Piece, Text, Sequence, LoneEscape, spelling, StandsBefore, ArePieces}
+use Rattle.ansi_items.specs.Pieces.{Piece, Text, Sequence, LoneEscape, spelling, StandsBefore, ArePieces, pieces_of}
 use Rattle.ansi_items.specs.Plain.{plain, plain_bytes, plain_of}
 use Rattle.ansi_items.specs.Scans.{Scan, GivesItem, pieces_left}
 use Rattle.ansi_items.proofs.JoinLemmas.{spelled}
@@ -32,7 +32,11 @@ use Rattle.ansi_columns.specs.declared.views.View.TheVariants.{Shown}
 use Rattle.ansi_columns.specs.declared.walks.Walk.{Walk}
 use Rattle.ansi_columns.specs.BreakStates.{break_state_of}
 use Rattle.ansi_columns.specs.Columns.{clusters, cluster_width, columns_of, columns, FitsUpTo}
-use Rattle.ansi_columns.specs.PlainCells.{IsPlainText, IsAtRun, IsPlainBefore, IsPlainCut}
+use Rattle.std.specs.Prelude.{MatchOption}
+use Rattle.ansi_style.specs.States.{rendition_of}
+use Rattle.ansi_safe.proofs.CellTextLemmas.{HasPieces}
+use Rattle.ansi_columns.specs.declared.plain_cells.PlainFront.{PlainFront}
+use Rattle.ansi_columns.specs.PlainCells.{IsPlainText, IsPlainCell, IsAtRun, IsFront, IsPlainBefore, IsPlainCut}
 use Rattle.ansi_columns.specs.Shown.{has_tail, truncated_width, KeptStays}
 use Rattle.ansi_columns.specs.Views.{seen, seen_text, seen_len}
 use Rattle.ansi_columns.specs.Walks.{seen_clusters, IsWalkIn, IsNext, IsPrintable, IsPrintableFront, IsPastAscii, AreClustersIn, IsFittingTo, SeesUpTo, walk_at_run}
@@ -67,6 +71,24 @@ front-are t (p ∷ front) w n ps are all within =
     let m = length (spelled front) + n in
     let count : length (spelling p ++ spelled front) + n ≡ length (spelling p) + m = omega (arith, length-append (spelling p) (spelled front)) in
     (take m are.0, ap₂ take count are.1 ∙ take-after (spelling p) are.0 m, stands-before p are.0 m both.0 are.2, front-are are.0 front w n ps are.3 both.1 within)
+
+-- and up to a later one
+cut-are : (t : List ℕ) (front : List Piece) (k : ℕ) (ps : List Piece) → ArePieces t (front ++ ps) → list_all is_plain_piece front ≡ true
+    → ArePieces (take (length (spelled front) + k) t) (front ++ pieces_of (take k (drop (length (spelled front)) t)))
+cut-are t [] k ps are all =
+    let same : take k t ≡ take (0 + k) t = (let n : k ≡ 0 + k = omega arith in ap (λ j. take j t) n) in
+    subst (λ u. ArePieces u (pieces_of (take k t))) same (pieces_are (take k t))
+cut-are t (p ∷ front) k ps are all =
+    let both = and_parts (is_plain_piece p) (list_all is_plain_piece front) all in
+    let m = length (spelled front) + k in
+    let count : length (spelling p ++ spelled front) + k ≡ length (spelling p) + m = omega (arith, length-append (spelling p) (spelled front)) in
+    let dropped : drop (length (spelled front)) are.0 ≡ drop (length (spelling p ++ spelled front)) t
+    = sym (ap₂ drop (length-append (spelling p) (spelled front)) are.1 ∙ sym (drop-drop (length (spelled front)) (length (spelling p)) (spelling p ++ are.0)) ∙ ap (drop (length (spelled front))) (drop_at (spelling p) are.0 (length (spelling p)) refl)) in (
+      take m are.0,
+      ap₂ take count are.1 ∙ take-after (spelling p) are.0 m,
+      stands-before p are.0 m both.0 are.2,
+      subst (λ u. ArePieces (take m are.0) (front ++ pieces_of (take k u))) dropped (cut-are are.0 front k ps are.3 both.1),
+    )
 
 one_text-plain : (x : List ℕ) → list_all is_printable x ≡ true → list_all is_plain_piece (one_text x) ≡ true
 one_text-plain [] all = refl
@@ -112,6 +134,10 @@ walk-at {t} {w} {width} {left} {passed} {at} {style = style} more ps v utf8 so_f
       fitting = λ printed.
           subst (λ n. IsFittingTo Shown t width n left) (sym place) (fitting-run t utf8 x y text printable w (more ++ plain_of ps) (append_assoc w more (plain_of ps)) some (part 1 printed) so_far.count);
       ends = λ ends. fitting-walk t utf8 x y text printable v place walk ends so_far.count;
+      rest = λ k test all.
+          let i : length (spelled front) ≡ v.offset = omega (arith, offset, so_far.bytes) in
+          let are = subst (λ i. ArePieces (take (i + k) t) (front ++ pieces_of (take k (drop i t)))) i (cut-are t front k (Text run ∷ ps) (subst (ArePieces t) so_far.all (pieces_are t)) so_far.are_plain) in
+          (and_parts (list_all test front) (list_all test (pieces_of (take k (drop v.offset t)))) (sym (ap (list_all test) (sym (pieces_of-unique _ _ are)) ∙ list_all-append test front (pieces_of (take k (drop v.offset t)))) ∙ all)).1;
     }
 
 -- the run is that of a part at the front of the text, and may go on after it
@@ -235,6 +261,46 @@ plain-over k before within walk position clusters seen = record {
   clusters = clusters;
   seen = seen;
 }
+
+-- ---- the text before the run
+
+pub front-run : (t : List ℕ) (width : ℕ) (front : PlainFront) {run : Walk} → IsFront t width front → front.run ≡ Some run → IsAtRun t width front.left (rendition_of front.style) run
+front-run t width front is some =
+    subst (λ o. MatchOption o (IsPlainCell t width front.left (rendition_of front.style) front.last) (IsAtRun t width front.left (rendition_of front.style))) some is
+
+pub front-text : (t : List ℕ) (width : ℕ) (front : PlainFront) {run : Walk} → IsFront t width front → front.run ≡ Some run → IsPlainText (take run.offset t) (rendition_of front.style)
+front-text t width front {run} is some =
+    let n = run.offset in
+    let at = front-run t width front is some in
+    let none : n + 0 - n ≡ 0 = omega arith in
+    let same : n + 0 ≡ n = omega arith in
+    let plain = at.front 0 (record { within = omega (arith, at.is_walk.run.ordered); bytes = ap (λ k. list_all is_printable (take k (drop n t))) none }) in
+    subst (λ k. IsPlainText (take k t) (rendition_of front.style)) same plain
+
+-- in a part of the text that has it
+pub front-part : (t : List ℕ) {kept : List ℕ} (width end : ℕ) (front : PlainFront) {run : Walk} → IsFront t width front → front.run ≡ Some run → kept ≡ slice_range t 0 end → run.offset ≤ end → IsPlainText (take run.offset kept) (rendition_of front.style)
+front-part t {kept} width end front {run} is some kept_is within =
+    let count : end - 0 ≡ end = omega arith in
+    let same : take run.offset kept ≡ take run.offset t = ap (take run.offset) (kept_is ∙ ap (λ k. take k t) count) ∙ take-take run.offset end t within in
+    subst (λ u. IsPlainText u (rendition_of front.style)) (sym same) (front-text t width front is some)
+
+-- what follows it has its pieces
+pub rest-pieces : (t : List ℕ) (n : ℕ) → ((k : ℕ) (test : Piece → Bool) → list_all test (pieces_of (take (n + k) t)) ≡ true → list_all test (pieces_of (take k (drop n t))) ≡ true) → HasPieces t (drop n t)
+rest-pieces t n has test all =
+    let k = length t in
+    let whole : take (n + k) t ≡ t = take_all (n + k) t (omega arith) in
+    let rest : take k (drop n t) ≡ drop n t = take_all k (drop n t) (omega (arith, length-drop n t)) in
+    ap (λ u. list_all test (pieces_of u)) (sym rest) ∙ has k test (ap (λ u. list_all test (pieces_of u)) whole ∙ all)
+
+-- and so it is in a part of the text
+pub front-rest : (t : List ℕ) {kept : List ℕ} (width end : ℕ) (front : PlainFront) {run : Walk} → IsFront t width front → front.run ≡ Some run → kept ≡ slice_range t 0 end → run.offset ≤ end → HasPieces kept (drop run.offset kept)
+front-rest t {kept} width end front {run} is some kept_is within test all =
+    let n = run.offset in
+    let k = end - n in
+    let count : end - 0 ≡ n + k = omega (arith, within) in
+    let same : kept ≡ take (n + k) t = kept_is ∙ ap (λ j. take j t) count in
+    let rest : drop n kept ≡ take k (drop n t) = ap (drop n) same ∙ drop-take n k t in
+    ap (λ u. list_all test (pieces_of u)) rest ∙ (front-run t width front is some).rest k test (ap (λ u. list_all test (pieces_of u)) (sym same) ∙ all)
 
 -- ---- the text truncated
 

@@ -1,5 +1,5 @@
 -- Characters that are clusters by themselves beside each other, and the table of them: it has each one below U+10000 that is shown as it is, with its columns.
-use Rattle.std.proofs.Common.{◌≡◌, ℕ, ◌<◌, ◌≤◌, Bool, true, false, not, ◌&&◌, ◌||◌, nat_le, List, [], ◌∷◌, inl, inr, unwrap_or, refl, sym, ap, ap₂, subst, ◌∙◌, arith, if◌then◌else◌}
+use Rattle.std.proofs.Common.{◌≡◌, ℕ, ◌<◌, ◌≤◌, ◌==◌, eqb-true, Bool, true, false, not, ◌&&◌, ◌||◌, nat_le, List, [], ◌∷◌, inl, inr, unwrap_or, refl, sym, ap, ap₂, subst, ◌∙◌, arith, if◌then◌else◌}
 use Rattle.std.specs.Int.{is_in_range}
 use Rattle.std.proofs.lemmas.Bool.{and_parts, cases_lt, leb-true}
 use Rattle.std.proofs.lemmas.Bool.Decides.{nat_tests}
@@ -32,6 +32,7 @@ use Rattle.unicode_width.proofs.KindLemmas.{kind_stepped}
 use Rattle.ansi_safe.specs.Safe.{is_printing}
 use Rattle.ansi_columns.specs.declared.break_state.BreakState.{BreakState}
 use Rattle.ansi_columns.specs.declared.singles.TheConstants.{BLOCKS, WORDS, REST}
+use Rattle.ansi_columns.specs.Letters.{is_letter}
 use Rattle.ansi_columns.specs.BreakStates.{links, break_state_of, is_other, IsSingle, IsSingleValue, IsSingleConjunct, IsShownSingle}
 use Rattle.ansi_columns.proofs.BreakLemmas.{break_state-push, is_grapheme_break-decided}
 
@@ -207,6 +208,27 @@ only_syllables = Stepped-everywhere _ (zip_stepped (λ r g. r || not (is_syllabl
 syllable-outside : (c : ℕ) → is_in_range 0xAC00 0xD7A3 c ≡ false → in_ranges syllable_ranges c ≡ false
 unfolding in_ranges
 syllable-outside c outside = ap (λ b. b || false) outside
+
+-- ---- letters of two bytes, and printable ASCII
+
+abbrev letter_ranges : List Range
+letter_ranges = (0x20, 0x7E) ∷ (0xC0, 0x2FF) ∷ (0x380, 0x47F) ∷ []
+
+letters_have_one : (c : ℕ) → (not (in_ranges letter_ranges c) || columns c == 1) ≡ true
+unfolding tables columns_stepped grapheme_cluster_break_stepped indic_conjunct_break_stepped is_extended_pictographic_stepped kind_stepped in_ranges rises_from
+letters_have_one = Stepped-everywhere _ (zip_stepped (λ r n. not r || n == 1) (in_ranges letter_ranges) columns (of_ranges letter_ranges refl) columns_stepped) refl
+
+letter-inside : (c : ℕ) → is_letter c ≡ true → in_ranges letter_ranges c ≡ true
+unfolding in_ranges
+letter-inside c is = grind (arith, nat_tests)
+
+pub IsShownSingle-letter : (c : ℕ) → is_letter c ≡ true → IsShownSingle c 1
+IsShownSingle-letter c is =
+    let one : (columns c == 1) ≡ true = rw (letter-inside c is) at (letters_have_one c) in
+    IsShownSingle-columns c 1 (sym (eqb-true (columns c) 1 one)) (omega arith)
+
+pub letter-elsewhere : (c : ℕ) → is_letter c ≡ true → is_in_range 0xAC00 0xD7A3 c ≡ false
+letter-elsewhere c is = grind (arith, nat_tests)
 
 -- U+2026, an ellipsis, has one column
 

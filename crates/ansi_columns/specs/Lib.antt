@@ -19,5 +19,6 @@ pub mod Addresses
 pub mod Tabs
 pub mod Edits
 pub mod Words
+pub mod Letters
 pub mod LineWalks
 pub mod PlainCells

@@ -1,6 +1,7 @@
 -- What one pass over a text of a cell, or of a paragraph of one line, finds, if that is printable ASCII and SGRs. No public contract cites it.
-use Rattle.std.specs.Prelude.{◌≡◌, ℕ, ◌+◌, ◌-◌, ◌<◌, List, [], length, take, slice_index, IsTrue, MatchOption}
+use Rattle.std.specs.Prelude.{◌≡◌, ℕ, ◌+◌, ◌-◌, ◌<◌, Bool, List, [], length, take, drop, slice_index, IsTrue, MatchOption}
 use Rattle.std.specs.List.{list_all}
+use Rattle.ansi_items.specs.Pieces.{Piece, pieces_of}
 use Rattle.ansi_items.specs.Plain.{plain, marks}
 use Rattle.ansi_style.specs.declared.state.rendition.Rendition.{Rendition}
 use Rattle.ansi_style.specs.States.{rendition_of}
@@ -32,12 +33,13 @@ pub record IsPlainCell (t : List ℕ) (width left : ℕ) (style : Rendition) (la
   pub printable : IsTrue (list_all is_printable_byte (plain t))
   pub last_is : last ≡ last_byte (plain t)
 
--- The text before a walk is such a text, also with printable ASCII of the walk's run. If the run begins with printable ASCII, or a cluster that ends in that ends there, the text before it fits and leaves this many columns.
+-- The text before a walk is such a text, also with printable ASCII of the walk's run. If the run begins with printable ASCII, or a cluster that ends in that ends there, the text before it fits and leaves this many columns. The pieces of the next k bytes are pieces of the text up to there.
 pub record IsAtRun (t : List ℕ) (width left : ℕ) (style : Rendition) (walk : Walk) : Type 0 where
   pub is_walk : IsWalkIn Shown t walk
   pub front : (n : ℕ) → IsPrintableFront t walk n → IsPlainText (take (walk.offset + n) t) style
   pub fitting : IsPrintableFront t walk 1 → IsFittingTo Shown t width walk.position left
   pub ends : EndsAscii t walk → IsFittingTo Shown t width walk.position left
+  pub rest : (k : ℕ) (test : Piece → Bool) → IsTrue (list_all test (pieces_of (take (walk.offset + k) t))) → IsTrue (list_all test (pieces_of (take k (drop walk.offset t))))
 
 -- What a pass over the front of a text finds.
 abbrev pub IsFront : List ℕ → ℕ → PlainFront → Type 0

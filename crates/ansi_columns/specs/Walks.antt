@@ -127,6 +127,10 @@ walk_at_run position start end = record { position = position; offset = start; r
 abbrev pub walk_at : Walk → Run → Walk
 walk_at walk next = record { position = walk.position + 1; offset = next.start; run_end = next.end; break_state = break_state_of [] }
 
+-- the walk n bytes on in its run, in the state after printable ASCII
+abbrev pub walk_on : Walk → ℕ → Walk
+walk_on walk n = record { position = walk.position + n; offset = walk.offset + n; run_end = walk.run_end; break_state = break_state_of [] }
+
 -- the run is the next one after the byte at the walk, if it is one
 abbrev pub IsNextRun : View → List ℕ → Walk → Run → Type 0
 IsNextRun view t walk next = 0 < next.end → IsPastByte view t walk (walk_at walk next)

@@ -16,6 +16,7 @@ pub mod fit;
 mod fits;
 mod from_end;
 pub mod laws;
+mod letters;
 pub mod line_walks;
 pub mod lines;
 mod plain_cells;

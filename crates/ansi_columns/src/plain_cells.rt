@@ -37,6 +37,9 @@ pub(crate) struct PlainFront {
 /// text could read far past the width, and `widths::width` would read much of it twice.
 pub(crate) const LONGEST: usize = 512;
 
+/// How many bytes before the end of that part a run has to end. A sequence after it could be cut.
+const LAST: usize = 64;
+
 /// Whether a text is ASCII, and not too long to be looked at.
 fn is_short_ascii(text: &str) -> bool {
     text.len() <= LONGEST && is_ascii(text.as_bytes())
@@ -148,6 +151,17 @@ pub(crate) fn plain_cell(text: &str, width: usize) -> Option<PlainFront>
     }
 }
 
+/// The same as `plain_runs`, of a short text of ASCII alone. `None` says nothing.
+#[inline(always)]
+pub(crate) fn ascii_runs(text: &str, width: usize) -> Option<PlainFront>
+    ensures { IfSome result (IsFront text.now width) }
+{
+    if !is_short_ascii(text) {
+        return None;
+    }
+    plain_runs(text, width)
+}
+
 /// The front of a text of a cell, up to the first run that doesn't fit or isn't printable ASCII.
 /// `None` says nothing. Of a run that has more bytes than columns are left, nothing is tested, and of a long
 /// text only the front is looked at.
@@ -158,6 +172,11 @@ pub(crate) fn plain_runs(text: &str, width: usize) -> Option<PlainFront>
         return None;
     }
     let near = &text[..text.floor_char_boundary(LONGEST)];
+    let most = if near.len() < text.len() {
+        near.len().saturating_sub(LAST)
+    } else {
+        near.len()
+    };
     let mut style = styles::plain_style();
     let mut left = width;
     let mut last = 0;
@@ -170,7 +189,7 @@ pub(crate) fn plain_runs(text: &str, width: usize) -> Option<PlainFront>
         if item.kind != Kind::Text {
             return None;
         }
-        if left < piece.len() || !is_printable(near, item.start, item.end) {
+        if left < piece.len() || most < item.end || !is_printable(near, item.start, item.end) {
             let run = Walk::at_run(&item, width - left);
             return Some(PlainFront {
                 left,

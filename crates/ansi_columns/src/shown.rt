@@ -5,15 +5,17 @@ ghost use Rattle.std.specs.Prelude.{IsOk, IfOk, OnOk, IfSome, IsTrue, true, fals
 ghost use Rattle.std.specs.Prelude.{if◌then◌else◌};
 ghost use Rattle.std.specs.Prelude.{string_bytes};
 ghost use Rattle.std.specs.List.{list_all};
-ghost use Rattle.std.specs.Str.{IsUtf8};
+ghost use Rattle.std.specs.Prelude.{slice_range};
+ghost use Rattle.std.specs.Str.{IsUtf8, IsCharBoundary};
 ghost use Rattle.std.specs.Cow.{cow_str_bytes, IsBorrowedStr};
 ghost use Rattle.unicode_segmentation.specs.Grapheme.{is_grapheme_break};
 ghost use Rattle.ansi_items.specs.Bytes.{is_plain_byte};
-ghost use Rattle.ansi_items.specs.Plain.{plain};
+ghost use Rattle.ansi_items.specs.Plain.{plain, marks};
 ghost use Rattle.ansi_style.specs.States.{rendition_of};
+ghost use Rattle.ansi_style.specs.Styled.{style_after};
 ghost use Rattle.ansi_style.specs.Written.{close, longest_close};
 ghost use Rattle.ansi_safe.specs.Cells.{cell};
-ghost use Rattle.ansi_safe.specs.Links.{longest_link_end, IsClosed};
+ghost use Rattle.ansi_safe.specs.Links.{link_of, link_end, longest_link_end, IsClosed};
 ghost use Rattle.ansi_safe.specs.Safe.{is_safe};
 ghost use Rattle.ansi_safe.specs.declared.policy.Links.TheVariants.{Keep};
 ghost use Rattle.ansi_columns.specs.OneLine.{is_one_line};
@@ -36,7 +38,7 @@ use crate::plain_cells::{
 use crate::views::View;
 use crate::walks::{Walk, first_run};
 use crate::widths;
-use ansi_safe::cells::cell_and_ending;
+use ansi_safe::cells::{cell_and_ending, cell_and_ending_after};
 use ansi_safe::links::{Ending, LONGEST_ENDING};
 use ansi_safe::printable::printable_len;
 use std::alloc::{AllocError, Allocator};
@@ -246,13 +248,46 @@ pub(crate) fn truncated_parts<'t, 'a, A: Allocator>(
         return Ok(plain);
     }
     let cut = truncation(text, width, tail, padded, fitted(text, width, &runs));
-    let (front, ending) = cell_and_ending(alloc, &text[..cut.end.offset])?;
+    let (front, ending) = kept_cell(alloc, text, width, &runs, cut.end.offset)?;
     Ok(TruncatedParts {
         front,
         ending,
         tail: cut.tail,
         missing: cut.missing,
     })
+}
+
+/// The text of a cell up to a place, and what ends its pen there. Of the front that `plain_runs` returned
+/// for `width`, nothing is read again.
+fn kept_cell<'t, A: Allocator>(
+    alloc: A,
+    text: &'t str,
+    width: usize,
+    front: &Option<PlainFront>,
+    end: usize,
+) -> Result<(CowStr<'t, A>, Ending), AllocError>
+    requires front { IfSome front.now (IsFront text.now width) }
+    requires boundary { IsCharBoundary text.now end }
+    ensures bytes { IfOk result (λ r.
+        cow_str_bytes r.0 ≡ cell (slice_range text.now 0 end)) }
+    ensures link_end { IfOk result (λ r.
+        r.1.link_end.now ≡ link_end (link_of (marks (cell (slice_range text.now 0 end))))) }
+    ensures style { IfOk result (λ r.
+        rendition_of r.1.style ≡ style_after (cell (slice_range text.now 0 end))) }
+    ensures borrowed { IfOk result (λ r. IsBorrowedStr r.0
+        ↔ (cell (slice_range text.now 0 end) ≡ slice_range text.now 0 end)) }
+    ensures takes_no_memory { cell (slice_range text.now 0 end) ≡ slice_range text.now 0 end →
+        IsOk result }
+{
+    let kept = &text[..end];
+    if let Some(front) = front
+        && let Some(run) = front.run
+        && 0 < run.offset
+        && run.offset <= end
+    {
+        return cell_and_ending_after(alloc, kept, run.offset, &front.style);
+    }
+    cell_and_ending(alloc, kept)
 }
 
 /// The parts of a text of a cell that is truncated, if what is kept of it is printable ASCII and

@@ -12,10 +12,11 @@ ghost use Rattle.ansi_columns.specs.Walks.{before, after, seen_before, seen_afte
 ghost use Rattle.ansi_columns.specs.Words.{ArePastLetters};
 ghost use Rattle.ansi_columns.specs.Walks.{IsRun, IsWalkIn, IsWalk, IsAnyWalk, IsTightWalk, IsNext, IsPastCluster, IsPastClusters};
 ghost use Rattle.ansi_columns.specs.Walks.{IsSeenNext, IsPrintable, IsPrintableFront, AreClustersIn, IsPastAscii, is_seen_ascii};
-ghost use Rattle.ansi_columns.specs.Walks.{IsPastFirst, IsPastLast, IsNextRun, EndsAscii, BreaksAfterAscii, walk_at, walk_at_run};
+ghost use Rattle.ansi_columns.specs.Walks.{IsPastFirst, IsPastLast, IsNextRun, EndsAscii, BreaksAfterAscii, walk_at, walk_at_run, walk_on};
 
 use crate::break_state::BreakState;
 use crate::from_end;
+use crate::letters::{stretch_before_last, wide_before_last};
 use crate::singles::{is_single, single_columns};
 use crate::views::View;
 use ansi_items::ansitok::{Item, Kind, Scanner};
@@ -227,13 +228,21 @@ impl Walk {
         ensures past { IsPastClusters view text.now self result.0 result.1 }
         ensures most { result.1 ≤ most }
     {
-        match &text.as_bytes()[self.offset..self.run_end] {
+        let run = &text.as_bytes()[self.offset..self.run_end];
+        match run {
             [0x20..=0x7E] | [0x20..=0x7E, 0..=0x7F, ..] => {
-                self.past_ascii_clusters(text, most, view)
+                return self.past_ascii_clusters(text, most, view);
             }
-            [0x20..=0x7E | 0xC2..=0xEF, ..] => self.past_letters(text, most, true),
-            _ => (self, 0),
+            [0x20..=0x7E | 0xC2..=0xEF, ..] => {}
+            _ => return (self, 0),
         }
+        if 16 <= run.len() && (begins_letters(run) || begins_wide(run)) {
+            let (later, columns) = self.past_stretch(text, most);
+            if columns > 0 {
+                return (later, columns);
+            }
+        }
+        self.past_letters(text, most, true)
     }
 
     /// The walk after the characters of a word that come next in the run, and their columns, at most
@@ -262,7 +271,29 @@ impl Walk {
             ArePastLetters view text.now self result.0 result.1 }
         ensures most { result.1 ≤ most }
     {
+        if begins_wide(&text.as_bytes()[self.offset..self.run_end]) {
+            let (later, columns) = self.past_wide(text, most);
+            if columns > 0 {
+                return (later, columns);
+            }
+        }
         self.past_letters(text, most, false)
+    }
+
+    /// The walk after kana, ideographs and the like that come next in the run, and their columns, at most
+    /// `most`. Each of them is a cluster by itself. The last one isn't passed.
+    #[inline(always)]
+    fn past_wide(self, text: &str, most: usize) -> (Walk, usize)
+        requires { IsAnyWalk text.now self }
+        ensures past { (view : View) → IsWalkIn view text.now self →
+            ArePastLetters view text.now self result.0 result.1 }
+        ensures most { result.1 ≤ most }
+    {
+        let (len, columns) = wide_before_last(&text[self.offset..self.run_end], most);
+        if len == 0 {
+            return (self, 0);
+        }
+        (self.on(len), columns)
     }
 
     /// The same for the printable ASCII that comes next in the run.
@@ -367,6 +398,37 @@ impl Walk {
             }
         }
         (walk, columns)
+    }
+
+    /// The walk after letters, or kana, ideographs and the like, that come next in the run, and their columns,
+    /// at most `most`. Each of them is a cluster by itself. The last one isn't passed.
+    #[inline(always)]
+    fn past_stretch(self, text: &str, most: usize) -> (Walk, usize)
+        requires { IsAnyWalk text.now self }
+        ensures past { (view : View) → IsWalkIn view text.now self →
+            IsPastClusters view text.now self result.0 result.1 }
+        ensures most { result.1 ≤ most }
+    {
+        let (len, columns) = stretch_before_last(&text[self.offset..self.run_end], most);
+        if len == 0 {
+            return (self, 0);
+        }
+        (self.on(len), columns)
+    }
+
+    /// The walk some bytes on in the run, in the state after printable ASCII.
+    #[inline(always)]
+    fn on(self, len: usize) -> Walk
+        requires position { self.position + len < 2 ^ 64 }
+        requires offset { self.offset + len < 2 ^ 64 }
+        ensures { result ≡ walk_on self len }
+    {
+        Walk {
+            position: self.position + len,
+            offset: self.offset + len,
+            run_end: self.run_end,
+            break_state: BreakState::start(),
+        }
     }
 
     /// The walk after the last character of the run, which is single and has `width` columns, if it is a
@@ -652,6 +714,22 @@ impl Walk {
             break_state,
         }
     }
+}
+
+/// Whether a run begins with two letters.
+#[inline(always)]
+fn begins_letters(run: &[u8]) -> bool {
+    matches!(
+        run,
+        [0x20..=0x7E, 0xC3..=0xCB | 0xCE..=0xD1, ..]
+            | [0xC3..=0xCB | 0xCE..=0xD1, _, 0x20..=0x7E | 0xC3..=0xCB | 0xCE..=0xD1, ..]
+    )
+}
+
+/// Whether a run seems to begin with eight ideographs or the like, so that a stretch of them pays.
+#[inline(always)]
+fn begins_wide(run: &[u8]) -> bool {
+    24 <= run.len() && matches!(run[0], 0xE3..=0xE9) && matches!(run[21], 0xE3..=0xE9)
 }
 
 /// Whether more bytes follow a first character that may be single. It saves decoding it if not.

@@ -23,7 +23,7 @@ pub(crate) mod pens;
 pub(crate) mod spans;
 
 use crate::wrap::spans::Spans;
-use ansi_safe::cells::paragraph_of;
+use ansi_safe::cells::{paragraph_of, written_paragraph};
 pub use ansi_split::split::PushNext;
 use ansi_style::state::Style;
 use std::alloc::{AllocError, Allocator, Global};
@@ -92,9 +92,11 @@ pub fn wrap<'t, A: Allocator + Copy>(alloc: A, text: &'t str, width: usize) -> A
 fn wrapped_lines<'t, A: Allocator + Copy>(alloc: A, text: &'t str, width: usize) -> AnsiWrap<'t, A>
     ensures { result ≡ wrapped text.now width }
 {
-    match paragraph_of(alloc, text) {
-        Ok(CowStr::Borrowed(text)) => AnsiWrap::lent(alloc, text, Spans::of(text, width)),
-        Ok(paragraph) => AnsiWrap::over(alloc, paragraph, None, width),
+    if let Some(spans) = Spans::of(text, width) {
+        return AnsiWrap::lent(alloc, text, spans);
+    }
+    match written_paragraph(alloc, text) {
+        Ok(paragraph) => AnsiWrap::over(alloc, CowStr::Owned(paragraph), None, width),
         Err(e) => AnsiWrap::over(alloc, CowStr::Borrowed(text), Some(e), width),
     }
 }

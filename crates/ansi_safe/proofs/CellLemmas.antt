@@ -7,12 +7,13 @@ use Rattle.std.proofs.lemmas.Bool.{and_from, and_parts, eqb-true}
 use Rattle.std.proofs.lemmas.Bool.Decides.{nat_tests}
 use Rattle.std.proofs.lemmas.Grind.{flat_map-append}
 use Rattle.std.proofs.lemmas.List.Folds.{list_all-append}
-use Rattle.std.proofs.lemmas.Str.{chars-append, chars-encodes, chars-nil, encodes-append, encodes-chars, scalars-chars}
+use Rattle.std.proofs.lemmas.Str.{IsUtf8-append, chars-append, chars-encodes, chars-nil, encodes-append, encodes-chars, scalars-chars}
 use Rattle.ansi_items.specs.Pieces.{Piece, Text, Sequence, LoneEscape, spelling, ArePieces, StandsBefore, pieces_of, after_text, merged}
 use Rattle.ansi_items.specs.Plain.{plain_bytes, plain_of, plain}
 use Rattle.ansi_items.proofs.JoinLemmas.{spelled, AllStandAnywhere, pieces_of-spelled, spelled-pieces_of}
 use Rattle.ansi_items.proofs.PieceLemmas.{pieces_are}
 use Rattle.ansi_items.proofs.PlainLemmas.{one_text, pieces_of-bare, plain_of-one_text}
+use Rattle.ansi_items.proofs.Utf8Lemmas.{IsUtf8-plain}
 use Rattle.ansi_safe.specs.declared.cells.Place.{Place}
 use Rattle.ansi_safe.specs.declared.cells.Place.TheVariants.{Cell, Paragraph}
 use Rattle.ansi_safe.specs.declared.policy.Links.TheVariants.{Keep}
@@ -304,6 +305,28 @@ is_placed-placed place t utf8 text =
 
 pub placed_stays : (place : Place) (t : List ℕ) → IsUtf8 t → placed place t ≡ t → is_placed place t ≡ true
 placed_stays place t utf8 same = subst (λ u. is_placed place u ≡ true) same (is_placed-placed place t utf8 (subst IsUtf8 (sym same) utf8))
+
+-- Two texts that stay as they are do so one after the other.
+pub stays-append : (place : Place) (u v : List ℕ) → IsUtf8 u → IsUtf8 v → placed place u ≡ u → placed place v ≡ v → placed place (u ++ v) ≡ u ++ v
+stays-append place u v utf8_u utf8_v first second =
+    let ps = placed_pieces place (pieces_of u) in
+    let qs = placed_pieces place (pieces_of v) in
+    let good_u = placed-good place u (pieces_of u) (pieces_are u) utf8_u in
+    let good_v = placed-good place v (pieces_of v) (pieces_are v) utf8_v in
+    let good = AreGood-append Keep ps qs good_u good_v in
+    let utf8 = IsUtf8-append u v utf8_u utf8_v in
+    let spells_u : spelled ps ≡ u = spelled-placed place (pieces_of u) ∙ first in
+    let spells_v : spelled qs ≡ v = spelled-placed place (pieces_of v) ∙ second in
+    let spells : spelled (ps ++ qs) ≡ u ++ v = flat_map-append spelling ps qs ∙ ap₂ ◌++◌ spells_u spells_v in
+    let safe : is_safe Keep (u ++ v) ≡ true = ap (is_safe Keep) (sym spells) ∙ good_are_safe Keep (ps ++ qs) good in
+    let plain_u : plain_of ps ≡ plain u = sym (plain-spelled ps (good_stand Keep ps good_u)) ∙ ap plain spells_u in
+    let plain_v : plain_of qs ≡ plain v = sym (plain-spelled qs (good_stand Keep qs good_v)) ∙ ap plain spells_v in
+    let bytes : plain (u ++ v) ≡ plain u ++ plain v = ap plain (sym spells) ∙ plain-spelled (ps ++ qs) (good_stand Keep (ps ++ qs) good) ∙ flat_map-append plain_bytes ps qs ∙ ap₂ ◌++◌ plain_u plain_v in
+    let all_u = ap (λ w. list_all (stays_in place) (chars (plain w))) (sym first) ∙ placed-stays_in place u utf8_u in
+    let all_v = ap (λ w. list_all (stays_in place) (chars (plain w))) (sym second) ∙ placed-stays_in place v utf8_v in
+    let stay : list_all (stays_in place) (chars (plain (u ++ v))) ≡ true = ap (λ w. list_all (stays_in place) (chars w)) bytes ∙ ap (list_all (stays_in place)) (chars-append (plain u) (plain v) (IsUtf8-plain u utf8_u))
+    ∙ list_all-append (stays_in place) (chars (plain u)) (chars (plain v)) ∙ and_from _ _ all_u all_v in
+    placed-stays place (u ++ v) utf8 (pieces-stay place (u ++ v) (pieces_of (u ++ v)) (pieces_are (u ++ v)) utf8 safe stay)
 
 -- Ordinary characters in front of others.
 

@@ -1,18 +1,27 @@
 -- The text of a cell is whole and UTF-8, and it and that of a paragraph are no longer than the text.
-use Rattle.std.proofs.Common.{◌≡◌, ℕ, ◌≤◌, Bool, true, false, ◌==◌, ◌||◌, List, [], ◌∷◌, length, flat_map, chars, encode_utf8, encode_utf8_all, if◌then◌else◌, IsTrue, refl, sym, ap, subst, arith, length-append}
+use Rattle.std.proofs.Common.{◌≡◌, ℕ, ◌≤◌, Bool, true, false, not, ◌==◌, ◌||◌, List, [], ◌∷◌, ◌++◌, length, take, drop, flat_map, chars, encode_utf8, encode_utf8_all, if◌then◌else◌, IsTrue, refl, sym, ◌∙◌, ap, subst, arith, length-append, take-append-drop}
 use lib.Utf8.{scalar, scalars}
-use Rattle.std.specs.Str.{IsUtf8, byte}
+use Rattle.std.specs.List.{list_all}
+use Rattle.std.specs.Str.{IsUtf8, IsCharBoundary, byte}
 use Rattle.std.proofs.lemmas.Bool.{and_from, and_parts}
-use Rattle.std.proofs.lemmas.Str.{IsUtf8-nil, IsUtf8-append, encodes-append, encodes-chars, encodes-IsAscii, scalars-chars, length-encode, len_utf8_bounds}
+use Rattle.std.proofs.lemmas.Str.{IsUtf8-take, IsUtf8-drop, IsUtf8-nil, IsUtf8-append, encodes-append, encodes-chars, encodes-IsAscii, scalars-chars, length-encode, len_utf8_bounds}
 use Rattle.ansi_items.specs.Pieces.{Piece, Text, Sequence, LoneEscape, spelling, ArePieces, pieces_of}
-use Rattle.ansi_items.specs.Plain.{is_whole}
+use Rattle.ansi_items.specs.Plain.{marks, is_whole}
+use Rattle.ansi_items.proofs.JoinLemmas.{pieces_of-append}
 use Rattle.ansi_items.proofs.PieceLemmas.{pieces_are}
+use Rattle.ansi_style.specs.Reading.{style_after_from}
+use Rattle.ansi_style.specs.Rendition.{plain_style}
+use Rattle.ansi_style.specs.Styled.{style_after}
+use Rattle.ansi_style.proofs.SpelledLemmas.{style_after_from-append}
+use Rattle.ansi_style.proofs.ThroughLemmas.{state_through, state_through-append, state_through-merged}
 use Rattle.ansi_safe.specs.declared.cells.Place.{Place}
 use Rattle.ansi_safe.specs.declared.cells.Place.TheVariants.{Cell, Paragraph}
 use Rattle.ansi_safe.specs.declared.policy.Links.TheVariants.{Keep}
+use Rattle.ansi_safe.specs.Links.{link_of, link_after}
 use Rattle.ansi_safe.specs.Safe.{is_allowed, may_stay}
-use Rattle.ansi_safe.specs.Cells.{in_place, run_in, piece_in, placed, cell, paragraph, is_cell}
-use Rattle.ansi_safe.proofs.CellLemmas.{placed-is_safe, placed-stays}
+use Rattle.ansi_safe.specs.Cells.{in_place, run_in, piece_in, placed, cell, paragraph, is_cell, stays_in, piece_stays}
+use Rattle.ansi_safe.proofs.CellLemmas.{placed-is_safe, placed-stays, placed_stays, stays-append}
+use Rattle.ansi_safe.proofs.LinkLemmas.{link_of-pieces}
 use Rattle.ansi_safe.proofs.MadeLemmas.{whole-safe}
 use Rattle.ansi_safe.proofs.FrontLemmas.{printable-ascii}
 use Rattle.ansi_safe.proofs.SafeLemmas.{piece_and_rest}
@@ -156,3 +165,78 @@ length-cell = length-placed Cell
 -- what is tested of a text that stays
 pub cell-stays : (t : List ℕ) → IsUtf8 t → is_cell t ≡ true → cell t ≡ t
 cell-stays = placed-stays Cell
+
+-- What stays as it is in a cell stays in a paragraph too.
+
+stays-also : (c : ℕ) → stays_in Cell c ≡ true → stays_in Paragraph c ≡ true
+stays-also c stays = by (c == 9) stays
+  where
+    by : (tab : Bool) → not (tab || (c == 10 || c == 13)) ≡ true → not tab ≡ true
+    by true stays = stays
+    by false stays = refl
+
+all-stay : (cs : List ℕ) → list_all (stays_in Cell) cs ≡ true → list_all (stays_in Paragraph) cs ≡ true
+all-stay [] all = refl
+all-stay (c ∷ cs) all =
+    let both = and_parts _ _ all in
+    and_from _ _ (stays-also c both.0) (all-stay cs both.1)
+
+pieces-stay : (ps : List Piece) → list_all (piece_stays Cell) ps ≡ true → list_all (piece_stays Paragraph) ps ≡ true
+pieces-stay [] all = refl
+pieces-stay (Text w ∷ ps) all =
+    let both = and_parts _ _ all in
+    let run = and_parts _ _ both.0 in
+    and_from _ _ (and_from _ _ run.0 (all-stay (chars w) run.1)) (pieces-stay ps both.1)
+pieces-stay (Sequence w ∷ ps) all =
+    let both = and_parts _ _ all in
+    and_from _ _ both.0 (pieces-stay ps both.1)
+pieces-stay (LoneEscape ∷ ps) all = absurd (cc all)
+
+pub paragraph-stays : (t : List ℕ) → IsUtf8 t → cell t ≡ t → paragraph t ≡ t
+paragraph-stays t utf8 same = placed-stays Paragraph t utf8 (pieces-stay (pieces_of t) (placed_stays Cell t utf8 same))
+
+-- a text of a cell before a paragraph
+pub paragraph-after_cell : (u v : List ℕ) → IsUtf8 u → IsUtf8 v → cell u ≡ u → paragraph v ≡ v → paragraph (u ++ v) ≡ u ++ v
+paragraph-after_cell u v utf8_u utf8_v first second = stays-append Paragraph u v utf8_u utf8_v (paragraph-stays u utf8_u first) second
+
+-- A text of a cell after a front that stays as it is.
+
+module _ (t : List ℕ) (n : ℕ) (utf8 : IsUtf8 t) (boundary : IsCharBoundary t n) (first : cell (take n t) ≡ take n t) (second : is_cell (drop n t) ≡ true) where
+  front_utf8 : IsUtf8 (take n t)
+  front_utf8 = IsUtf8-take t n utf8 boundary
+
+  rest_utf8 : IsUtf8 (drop n t)
+  rest_utf8 = IsUtf8-drop t n utf8 boundary
+
+  rest_stays : cell (drop n t) ≡ drop n t
+  rest_stays = cell-stays (drop n t) rest_utf8 second
+
+  whole_front : IsTrue (is_whole (take n t))
+  whole_front = subst (λ u. IsTrue (is_whole u)) first (whole-cell (take n t) front_utf8)
+
+  whole_rest : IsTrue (is_whole (drop n t))
+  whole_rest = subst (λ u. IsTrue (is_whole u)) rest_stays (whole-cell (drop n t) rest_utf8)
+
+  pub cell-after : cell t ≡ t
+  cell-after = subst (λ u. cell u ≡ u) (take-append-drop n t) (stays-append Cell (take n t) (drop n t) front_utf8 rest_utf8 first rest_stays)
+
+  pub style-after : style_after t ≡ style_after_from (style_after (take n t)) (drop n t)
+  style-after = ap style_after (sym (take-append-drop n t)) ∙ style_after_from-append plain_style (take n t) (drop n t) whole_front whole_rest
+
+  pub link-after : link_of (marks (take n t)) ≡ [] → link_of (marks t) ≡ link_of (marks (drop n t))
+  link-after none =
+      let ps = pieces_of (take n t) in
+      let qs = pieces_of (drop n t) in
+      ap (λ u. link_of (marks u)) (sym (take-append-drop n t)) ∙ link_of-pieces (pieces_of (take n t ++ drop n t)) ∙ ap (state_through link_after []) (pieces_of-append (take n t) (drop n t) whole_front whole_rest)
+      ∙ state_through-merged link_after [] (ps ++ qs) ∙ state_through-append link_after [] ps qs ∙ ap (λ l. state_through link_after l qs) (sym (link_of-pieces ps) ∙ none) ∙ sym (link_of-pieces qs)
+
+-- The pieces of what follows a front are pieces of the text, so it stays if the text does.
+
+abbrev pub HasPieces : List ℕ → List ℕ → Type 0
+HasPieces t rest = (test : Piece → Bool) → list_all test (pieces_of t) ≡ true → list_all test (pieces_of rest) ≡ true
+
+pub paragraph-rest : (t rest : List ℕ) → IsUtf8 t → IsUtf8 rest → HasPieces t rest → paragraph t ≡ t → paragraph rest ≡ rest
+paragraph-rest t rest utf8 rest_utf8 has same = placed-stays Paragraph rest rest_utf8 (has (piece_stays Paragraph) (placed_stays Paragraph t utf8 same))
+
+pub cell-rest : (t rest : List ℕ) → IsUtf8 t → HasPieces t rest → cell t ≡ t → is_cell rest ≡ true
+cell-rest t rest utf8 has same = has (piece_stays Cell) (placed_stays Cell t utf8 same)

@@ -11,6 +11,8 @@ use Rattle.ansi_items.specs.Plain.{marks}
 use Rattle.ansi_items.proofs.JoinLemmas.{pieces_of-run}
 use Rattle.ansi_style.specs.Rendition.{plain_style}
 use Rattle.ansi_style.specs.Sgr.{apply}
+use Rattle.ansi_style.specs.declared.state.rendition.Rendition.{Rendition}
+use Rattle.ansi_style.specs.Reading.{style_after_from}
 use Rattle.ansi_style.specs.Styled.{style_after}
 use Rattle.ansi_style.proofs.StyledLemmas.{style_after_from-pieces}
 use Rattle.ansi_style.proofs.ThroughLemmas.{state_through}
@@ -61,9 +63,12 @@ through-ordinary : {S : Type 0} (step : S → List ℕ → S) (s : S) (white : B
 through-ordinary step s white [] rest all = refl
 through-ordinary step s white (b ∷ w) rest all = ap (state_through step s) (pieces-ordinary white b w rest all) ∙ through-after_text step s (b ∷ w) (pieces_of rest)
 
+pub style_from-ordinary : (s : Rendition) (white : Bool) (w rest : List ℕ) → list_all (is_ordinary_byte white) w ≡ true → style_after_from s (w ++ rest) ≡ style_after_from s rest
+style_from-ordinary s white w rest all =
+    style_after_from-pieces s (w ++ rest) ∙ through-ordinary apply s white w rest all ∙ sym (style_after_from-pieces s rest)
+
 pub style-ordinary : (white : Bool) (w rest : List ℕ) → list_all (is_ordinary_byte white) w ≡ true → style_after (w ++ rest) ≡ style_after rest
-style-ordinary white w rest all =
-    style_after_from-pieces plain_style (w ++ rest) ∙ through-ordinary apply plain_style white w rest all ∙ sym (style_after_from-pieces plain_style rest)
+style-ordinary = style_from-ordinary plain_style
 
 pub link-ordinary : (white : Bool) (w rest : List ℕ) → list_all (is_ordinary_byte white) w ≡ true → link_of (marks (w ++ rest)) ≡ link_of (marks rest)
 link-ordinary white w rest all = link_of-pieces (pieces_of (w ++ rest)) ∙ through-ordinary link_after [] white w rest all ∙ sym (link_of-pieces (pieces_of rest))

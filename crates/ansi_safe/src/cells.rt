@@ -1,12 +1,15 @@
 //! What shown texts are made of: the text of a cell, on one line, and of a paragraph.
-ghost use Rattle.std.specs.Prelude.{◌≡◌, ◌↔◌, ◌≤◌, ◌∷◌, ◌++◌, length, IsTrue, IsOk, IfOk};
+ghost use Rattle.std.specs.Prelude.{◌≡◌, ◌↔◌, ◌≤◌, ◌∷◌, ◌++◌, length, take, drop, IsTrue, IsOk, IfOk};
 ghost use Rattle.std.specs.Prelude.{OnOk, MatchOption, IfSome, is_some, [], chars, encode_utf8_all};
 ghost use Rattle.std.specs.Prelude.{string_bytes};
 ghost use Rattle.std.specs.Cow.{cow_str_bytes, IsBorrowedStr};
 ghost use Rattle.std.specs.List.{list_all};
+ghost use Rattle.std.specs.Str.{IsCharBoundary};
 ghost use Rattle.ansi_items.specs.Pieces.{spelling};
 ghost use Rattle.ansi_items.specs.Plain.{plain, marks};
 ghost use Rattle.ansi_items.specs.Scans.{kind_of, piece_of_kind};
+ghost use Rattle.ansi_style.specs.declared.state.rendition.Rendition.{Rendition};
+ghost use Rattle.ansi_style.specs.Reading.{style_after_from};
 ghost use Rattle.ansi_style.specs.States.{rendition_of};
 ghost use Rattle.ansi_style.specs.Styled.{style_after};
 ghost use Rattle.ansi_safe.specs.declared.cells.Place.{Place};
@@ -20,9 +23,10 @@ ghost use Rattle.ansi_safe.specs.Links.{link_of, link_end};
 
 use crate::allowed::{is_allowed, is_printing, may_stay, split_first};
 use crate::front::split_ordinary;
-use crate::links::{Ending, Pen, link_after, pen_after, plain_pen};
+use crate::links::{Ending, Pen, link_after, pen_after};
 use crate::policy::Links;
 use ansi_items::ansitok::{Kind, Scanner};
+use ansi_style::state::Style;
 use ansi_style::styles::{self, plain_style};
 use std::alloc::{AllocError, Allocator};
 use std::borrow::CowStr;
@@ -79,34 +83,83 @@ pub fn cell_and_ending<A: Allocator>(
     ensures len { IfOk result (λ r. length (cow_str_bytes r.0) ≤ length text.now) }
     ensures takes_no_memory { cell text.now ≡ text.now → IsOk result }
 {
-    if let Some(pen) = pen_if_cell(text) {
+    if let Some(pen) = pen_if_cell(text, &plain_style()) {
         return Ok((CowStr::Borrowed(text), pen.ending()));
     }
+    written_cell(alloc, text)
+}
+
+/// The text of a cell, written, and what ends its link and its style.
+fn written_cell<'t, A: Allocator>(
+    alloc: A,
+    text: &str,
+) -> Result<(CowStr<'t, A>, Ending), AllocError>
+    ensures bytes { IfOk result (λ r. cow_str_bytes r.0 ≡ cell text.now) }
+    ensures link_end { IfOk result (λ r.
+        r.1.link_end.now ≡ link_end (link_of (marks (cell text.now)))) }
+    ensures style { IfOk result (λ r. rendition_of r.1.style ≡ style_after (cell text.now)) }
+    ensures owned { IfOk result (λ r. ¬ (IsBorrowedStr r.0)) }
+    ensures len { IfOk result (λ r. length (cow_str_bytes r.0) ≤ length text.now) }
+{
     let cell = write_placed(alloc, text, Place::Cell)?;
     let ending = pen_after(cell.as_str()).ending();
     Ok((CowStr::Owned(cell), ending))
 }
 
-/// The pen after a text, or `None` if the text doesn't stay as it is in a cell. Doesn't allocate.
-fn pen_if_cell(text: &str) -> Option<Pen<'_>>
+/// The same as [`cell_and_ending`], for a text whose first `known` bytes are known to stay as they are, and
+/// to leave this style and no link open. A text that stays as it is is read once, from there on. `Err`
+/// means out of memory. (Own.)
+pub fn cell_and_ending_after<'t, A: Allocator>(
+    alloc: A,
+    text: &'t str,
+    known: usize,
+    style: &Style,
+) -> Result<(CowStr<'t, A>, Ending), AllocError>
+    requires boundary { IsCharBoundary text.now known }
+    requires stays { cell (take known text.now) ≡ take known text.now }
+    requires style { rendition_of style.now ≡ style_after (take known text.now) }
+    requires link { link_of (marks (take known text.now)) ≡ [] }
+    requires rest { cell text.now ≡ text.now → IsTrue (is_cell (drop known text.now)) }
+    ensures bytes { IfOk result (λ r. cow_str_bytes r.0 ≡ cell text.now) }
+    ensures link_end { IfOk result (λ r.
+        r.1.link_end.now ≡ link_end (link_of (marks (cell text.now)))) }
+    ensures style { IfOk result (λ r. rendition_of r.1.style ≡ style_after (cell text.now)) }
+    ensures borrowed { IfOk result (λ r. IsBorrowedStr r.0 ↔ (cell text.now ≡ text.now)) }
+    ensures len { IfOk result (λ r. length (cow_str_bytes r.0) ≤ length text.now) }
+    ensures takes_no_memory { cell text.now ≡ text.now → IsOk result }
+{
+    if let Some(pen) = pen_if_cell(&text[known..], style) {
+        return Ok((CowStr::Borrowed(text), pen.ending()));
+    }
+    written_cell(alloc, text)
+}
+
+/// The pen after a text that follows this style, or `None` if the text doesn't stay as it is in a cell.
+/// Doesn't allocate.
+fn pen_if_cell<'t>(text: &'t str, before: &Style) -> Option<Pen<'t>>
     ensures none { is_some result ≡ is_cell text.now }
-    ensures style { IfSome result (λ pen. rendition_of pen.style ≡ style_after text.now) }
+    ensures style { IfSome result (λ pen.
+        rendition_of pen.style ≡ style_after_from (rendition_of before.now) text.now) }
     ensures link { IfSome result (λ pen. pen.link.now ≡ link_of (marks text.now)) }
 {
     let rest = after_staying(text, Place::Cell);
     if rest.is_empty() {
-        return Some(plain_pen());
+        return Some(Pen {
+            style: *before,
+            link: "",
+        });
     }
-    pen_after_items(rest)
+    pen_after_items(rest, before)
 }
 
 /// Like `pen_if_cell`, item by item.
-fn pen_after_items(text: &str) -> Option<Pen<'_>>
+fn pen_after_items<'t>(text: &'t str, before: &Style) -> Option<Pen<'t>>
     ensures none { is_some result ≡ is_cell text.now }
-    ensures style { IfSome result (λ pen. rendition_of pen.style ≡ style_after text.now) }
+    ensures style { IfSome result (λ pen.
+        rendition_of pen.style ≡ style_after_from (rendition_of before.now) text.now) }
     ensures link { IfSome result (λ pen. pen.link.now ≡ link_of (marks text.now)) }
 {
-    let mut style = plain_style();
+    let mut style = *before;
     let mut link = "";
     for item in Scanner::new(text) {
         let piece = &text[item.start..item.end];
@@ -140,6 +193,29 @@ pub fn paragraph_of<A: Allocator>(alloc: A, text: &str) -> Result<CowStr<'_, A>,
     ensures safe { IfOk result (λ c. IsTrue (is_safe Keep (cow_str_bytes c))) }
 {
     text_in(alloc, text, Place::Paragraph)
+}
+
+/// The paragraph of a text, as [`paragraph_of`] returns it, written even if it is the text itself. `Err`
+/// means out of memory. (Own.)
+///
+/// ```
+/// assert!(rt; written_paragraph(rt.alloc(), "a\tb")?.as_str() == "a b");
+/// ```
+pub fn written_paragraph<A: Allocator>(alloc: A, text: &str) -> Result<String<A>, AllocError>
+    ensures bytes { IfOk result (λ s. string_bytes s ≡ paragraph text.now) }
+{
+    write_placed(alloc, text, Place::Paragraph)
+}
+
+/// Whether a text is its own paragraph, as [`paragraph_of`] returns it. Doesn't allocate. (Own.)
+///
+/// ```
+/// assert!(rt; is_paragraph("\x1b[1ma\nb") && !is_paragraph("a\tb"));
+/// ```
+pub fn is_paragraph(text: &str) -> bool
+    ensures { IsTrue result ↔ (paragraph text.now ≡ text.now) }
+{
+    is_placed(text, Place::Paragraph)
 }
 
 /// What a character of a plain text is in the text of a cell: itself if it is printing, a blank if
@@ -193,7 +269,7 @@ fn is_placed(text: &str, place: Place) -> bool
 #[inline(always)]
 fn after_staying(text: &str, place: Place) -> &str
     ensures stays { is_placed place text.now ≡ is_placed place result.now }
-    ensures style { style_after text.now ≡ style_after result.now }
+    ensures style { (s : Rendition) → style_after_from s text.now ≡ style_after_from s result.now }
     ensures link { link_of (marks text.now) ≡ link_of (marks result.now) }
 {
     let (_, rest) = split_ordinary(text, false);

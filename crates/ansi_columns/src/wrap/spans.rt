@@ -1,23 +1,26 @@
 //! The stretches of a text from which the lines of a wrap are written.
 ghost use Rattle.std.specs.Prelude.{◌≡◌, ◌+◌, ◌++◌, ◌≤◌, ℕ, List, [], length, IsTrue, IsFalse, IsOk};
-ghost use Rattle.std.specs.Prelude.{IfOk, IfSome, OnOk, OnErr, ◌∷◌, string_bytes, map};
+ghost use Rattle.std.specs.Prelude.{◌↔◌, IfOk, IfSome, IfNone, OnOk, OnErr, ◌∷◌, string_bytes, map};
 ghost use Rattle.std.specs.Iterator.{YieldsFirst};
 ghost use Rattle.std.specs.Option.{MatchOption};
 ghost use Rattle.ansi_style.specs.States.{rendition_of};
 ghost use Rattle.ansi_style.specs.Writing.{KeepsText};
 ghost use Rattle.ansi_style.specs.Written.{close, longest_start_and_close};
+ghost use Rattle.ansi_safe.specs.Cells.{paragraph};
 ghost use Rattle.ansi_safe.specs.Links.{longest_link_end};
 ghost use Rattle.ansi_split.specs.Splits.{IsCarriedPart};
 ghost use Rattle.ansi_columns.specs.Wrapped.{IsTaken};
 ghost use Rattle.ansi_columns.specs.WrapStates.{span_lines, lines_after, lines_of, HasNext};
+ghost use Rattle.ansi_columns.specs.PlainCells.{IsFront};
 ghost use Rattle.ansi_columns.specs.WrapStates.{AreNew, AreSpans, IsCharRange, IsOnlyLine};
 ghost use Rattle.ansi_columns.specs.declared.wrap.spans.Next.TheVariants.{First, At};
 
 use crate::lines::first_line;
-use crate::plain_cells::plain_cell;
+use crate::plain_cells::{PlainFront, ascii_runs};
 use crate::views::View;
 use crate::walks::Walk;
 use crate::wrap::pens::PenAt;
+use ansi_safe::cells::is_paragraph;
 use ansi_safe::links::{Pen, plain_pen};
 use ansi_search::search::PAST_THE_END;
 use ansi_slice::slice::{has_any, push_sequences};
@@ -227,17 +230,27 @@ impl Spans {
         Spans::begin(width.max(1), Next::First)
     }
 
-    /// The spans of all lines of a text, the only one or the first one of which is sought at once.
+    /// The spans of all lines of a text, or `None` if it isn't its own paragraph.
+    ///
+    /// The front of the text that one pass finds to stay isn't tested again.
     #[inline(never)]
-    pub(crate) fn of(text: &str, width: usize) -> Self
-        ensures spans { AreSpans text.now result }
-        ensures lines { span_lines text.now result ≡ lines_of text.now width }
+    pub(crate) fn of(text: &str, width: usize) -> Option<Self>
+        ensures spans { IfSome result (AreSpans text.now) }
+        ensures lines { IfSome result (λ s. span_lines text.now s ≡ lines_of text.now width) }
+        ensures paragraph { IfSome result (λ _. paragraph text.now ≡ text.now) }
+        ensures none { IfNone result (¬ (paragraph text.now ≡ text.now)) }
     {
         let width = width.max(1);
-        match only_line(text, width) {
-            Some(line) => Spans::begin(width, Next::Only(line)),
-            None => Spans::begin(width, Next::At(Walk::start(text))),
+        let front = ascii_runs(text, width);
+        if let Some(front) = &front
+            && let Some(line) = line_of_front(front, width)
+        {
+            return Some(Spans::begin(width, Next::Only(line)));
         }
+        if !stays(text, width, &front) {
+            return None;
+        }
+        Some(Spans::begin(width, Next::At(Walk::start(text))))
     }
 
     /// Spans of which none is taken.
@@ -360,12 +373,35 @@ impl Spans {
 fn only_line(text: &str, width: usize) -> Option<OnlyLine>
     ensures { IfSome result (IsOnlyLine text.now width) }
 {
-    let plain = plain_cell(text, width)?;
-    if plain.last == b' ' {
+    line_of_front(&ascii_runs(text, width)?, width)
+}
+
+/// The only line of a text, if this front is all of it and doesn't end with a blank. `None` says nothing.
+#[inline(always)]
+fn line_of_front(front: &PlainFront, width: usize) -> Option<OnlyLine>
+    requires { (text : List ℕ) × IsFront text width front.now }
+    ensures { (text : List ℕ) → IsFront text width front.now → IfSome result (IsOnlyLine text width) }
+{
+    if front.run.is_some() || front.last == b' ' {
         return None;
     }
     Some(OnlyLine {
-        len: width - plain.left,
-        style: plain.style,
+        len: width - front.left,
+        style: front.style,
     })
+}
+
+/// Whether a text is its own paragraph, after what `ascii_runs` returned for `width`.
+#[inline(always)]
+fn stays(text: &str, width: usize, front: &Option<PlainFront>) -> bool
+    requires { IfSome front.now (IsFront text.now width) }
+    ensures { IsTrue result ↔ (paragraph text.now ≡ text.now) }
+{
+    let Some(front) = front else {
+        return is_paragraph(text);
+    };
+    match front.run {
+        Some(run) => is_paragraph(&text[run.offset..]),
+        None => true,
+    }
 }

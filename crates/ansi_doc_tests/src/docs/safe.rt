@@ -1,5 +1,7 @@
 //! The examples of the docs of `ansi_safe`, in the same words.
-use ansi_safe::cells::{cell_and_ending, cell_char, cell_of, paragraph_of};
+use ansi_safe::cells::{
+    cell_and_ending, cell_char, cell_of, is_paragraph, paragraph_of, written_paragraph,
+};
 use ansi_safe::links::pen_after;
 use ansi_safe::safe::{is_safe, pen_if_safe, sanitize};
 use ansi_safe::utf8::from_utf8;
@@ -113,6 +115,17 @@ fn paragraph_of_example(rt: HostRuntime) -> Result<(), Fail> {
     let paragraph = paragraph_of(rt.alloc(), "a\tb\r\n\x1b[2Jc")?;
     assert!(rt; paragraph.as_str() == "a b\r\nc");
     Ok(())
+}
+
+#[test]
+fn written_paragraph_example(rt: HostRuntime) -> Result<(), Fail> {
+    assert!(rt; written_paragraph(rt.alloc(), "a\tb")?.as_str() == "a b");
+    Ok(())
+}
+
+#[test]
+fn is_paragraph_example(rt: HostRuntime) {
+    assert!(rt; is_paragraph("\x1b[1ma\nb") && !is_paragraph("a\tb"));
 }
 
 #[test]

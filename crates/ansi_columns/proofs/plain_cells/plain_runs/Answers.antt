@@ -72,6 +72,6 @@ returns c =
     let near : c.range-near.result.now ≡ take n t = c.range-near.ensures.value ∙ ap (λ m. take m t) count in
     let boundary = c.floor_char_boundary.ensures.boundary in
     let size : length c.range-near.result.now ≡ n = ap length near ∙ length-take-le n t boundary.0 in
-    let whole : t ≡ c.range-near.result.now = sym (near ∙ take_all n t (omega (arith, size, c.if-near-text.false))) in
+    let whole : t ≡ c.range-near.result.now = sym (near ∙ take_all n t (omega (arith, size, c.if-near-text-2.false))) in
     let utf8 = subst IsUtf8 (sym near) (IsUtf8-take t n c.utf8.text boundary) in
     subst (λ u. IsPlainCell u c.args.width c.loop-item.left (rendition_of c.loop-item.style) c.loop-item.last) (sym whole) (plain-end utf8 c.loop-item.invariant.so_far c.in-None.ensures.steps.2)

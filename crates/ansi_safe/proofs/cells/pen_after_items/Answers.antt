@@ -2,7 +2,7 @@ use Rattle.std.proofs.Common.{◌≡◌, [], sym, ◌∙◌, ap, subst, rules}
 use Rattle.ansi_items.specs.Plain.{marks}
 use Rattle.ansi_items.specs.Scans.{pieces_left}
 use Rattle.ansi_items.specs.Pieces.{pieces_of}
-use Rattle.ansi_style.specs.Rendition.{plain_style}
+use Rattle.ansi_style.specs.States.{rendition_of}
 use Rattle.std.specs.List.{list_all}
 use Rattle.ansi_safe.specs.declared.cells.Place.TheVariants.{Cell}
 use Rattle.ansi_safe.specs.Cells.{piece_stays}
@@ -12,13 +12,13 @@ use Rattle.ansi_safe.proofs.cells.pen_after_items.Goals as goal
 pub loop-item-init : goal.loop-item-init
 loop-item-init c =
     let t = c.args.text.now in
+    let style = rendition_of c.args.before.now in
     let begins : c.into_iter-item-iterator.result ≡ record { text = t; offset = 0 } = c.into_iter-item-iterator.ensures.into_iter_gives ∙ c.new-item-items.ensures.start in
     let left : pieces_of t ≡ pieces_left c.into_iter-item-iterator.result = ap pieces_left (sym begins) in
     record {
       text = ap (λ s. s.text) begins;
       decides = ap (list_all (piece_stays Cell)) left;
-      so_far = subst (λ s. IsOpenSoFar t plain_style [] s [] (pieces_left c.into_iter-item-iterator.result)) (sym c.plain_style-style.ensures)
-          (subst (IsOpenSoFar t plain_style [] plain_style []) left (open-begin t plain_style []));
+      so_far = subst (IsOpenSoFar t style [] style []) left (open-begin t style []);
       link_is_text = search rules;
     }
 
