@@ -158,7 +158,7 @@ fn write_stretch(stretch: &Stretch<'_>, buffer: &mut [u8]) -> Option<usize>
 
 /// The start of a style, if it is short. `None` says nothing.
 #[inline(always)]
-fn short_start(style: &Style) -> Option<ArrayString<SHORT>>
+pub(crate) fn short_start(style: &Style) -> Option<ArrayString<SHORT>>
     ensures { IfSome result (λ s. s.bytes ≡ start (rendition_of style.now)) }
 {
     if !styles::has_any(style) {

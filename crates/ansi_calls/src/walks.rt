@@ -4,7 +4,7 @@ ghost use Rattle.std.specs.Prelude.{◌≡◌, not, ◌==◌, ◌≤◌, ◌++�
 ghost use Rattle.std.specs.Prelude.{IfOk, IfSome, string_bytes};
 ghost use Rattle.ansi_str.specs.Blocks.{sequences_before};
 ghost use Rattle.ansi_str.specs.States.{rendition_of, rendition_of_numbers};
-ghost use Rattle.ansi_str.specs.Written.{start, close};
+ghost use Rattle.ansi_str.specs.Written.{start, close, close_if_any};
 ghost use Rattle.ansi_split.specs.Walks.{IsPartWalk};
 ghost use Rattle.ansi_style.specs.declared.styles.TheConstants.{SHORT};
 ghost use Rattle.ansi_calls.specs.Answers.{no, Gives, IsWritten};
@@ -13,13 +13,15 @@ ghost use Rattle.ansi_calls.specs.Calls.{BeginsBlocks, BeginsParts, WritesStart,
 
 use crate::answers::{Answer, NO, NOT_UTF8, OK, OUT_OF_MEMORY, TOO_SMALL, write, write_made};
 use crate::lists::put;
+use crate::shown::short_start;
 use ansi_blocks::runs::{Run, first_styled_run, sequences_before};
 use ansi_safe::utf8::from_utf8;
-use ansi_split::walks::{PartWalk, next_in, next_run_in, walk_in};
+use ansi_split::walks::{PartWalk, first_stretch, next_in, next_run_in, walk_in};
 use ansi_style::numbers::StyleNumbers;
 use ansi_style::state::Style;
 use ansi_style::styles;
 use ansi_style::styles::SHORT;
+use arrayvec::ArrayString;
 use std::alloc::{AllocError, Allocator};
 use std::borrow::CowStr;
 use std::str::from_utf8_unchecked;
@@ -194,7 +196,7 @@ pub fn parts_next<'a, A: Allocator + Copy>(
 {
     let before = *walk;
     let Some(run) = next_run_in(walk) else {
-        let answer = walked_part(alloc, walk, part, buffer);
+        let answer = marked_part(alloc, walk, part, buffer);
         if answer.status != OK {
             *walk = before;
         }
@@ -214,6 +216,50 @@ pub fn parts_next<'a, A: Allocator + Copy>(
 }
 
 /// Takes the next part off a walk, if that doesn't end in the stretch that is known to have no ESC.
+/// Allocates only if a sequence is in the match before the part, or if the start or the close that
+/// is written has more than `SHORT` bytes.
+fn marked_part<'a, A: Allocator + Copy>(
+    alloc: A,
+    walk: &mut PartWalk<'a>,
+    part: &mut NextPart<'a>,
+    buffer: &mut [u8],
+) -> Answer
+    requires { IsPartWalk walk.old }
+    ensures walk { IsPartWalk walk.new }
+    ensures next { GivesNextPart walk.old walk.new part.old part.new result buffer.old buffer.new }
+{
+    let Some((stretch, left)) = first_stretch(walk) else {
+        return walked_part(alloc, walk, part, buffer);
+    };
+    let Some(around) = stretch.around else {
+        *walk = left;
+        *part = NextPart {
+            text: stretch.text.as_bytes(),
+        };
+        return Answer::done(0);
+    };
+    let (Some(start), Some(close)) = (short_start(&around.before), close_if_any(&around.after))
+    else {
+        return walked_part(alloc, walk, part, buffer);
+    };
+    let answer = write_between(start.as_str(), stretch.text, close.as_str(), buffer);
+    if answer.status == OK {
+        *walk = left;
+    }
+    answer
+}
+
+/// The close of a style that has anything to reset, if it is short. `None` says nothing.
+fn close_if_any(style: &Style) -> Option<ArrayString<SHORT>>
+    ensures { IfSome result (λ s. s.bytes ≡ close_if_any (rendition_of style.now)) }
+{
+    if !styles::has_any(style) {
+        return Some(ArrayString::new());
+    }
+    styles::short_close(style)
+}
+
+/// Takes the next part off a walk. It is written as a text of its own.
 fn walked_part<'a, A: Allocator + Copy>(
     alloc: A,
     walk: &mut PartWalk<'a>,

@@ -122,7 +122,7 @@ shown-mark {whole} {old} {new} {skip} {kind} {w} {left} {ps} so_far begins more 
 
 -- The start, the text, and the close if the style has one, are the part.
 
-span_text-is : (c : Rendition) (t : List ℕ) (skip : ℕ) (after : Rendition) → after ≡ style_after_from c t → (start c ++ left_of skip (pieces_of t)) ++ close_if_any after ≡ span_text c t skip
+pub span_text-is : (c : Rendition) (t : List ℕ) (skip : ℕ) (after : Rendition) → after ≡ style_after_from c t → (start c ++ left_of skip (pieces_of t)) ++ close_if_any after ≡ span_text c t skip
 unfolding span_text
 span_text-is c t skip after is = ap (λ r. (start c ++ left_of skip (pieces_of t)) ++ close_if_any r) is
 

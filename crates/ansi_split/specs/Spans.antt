@@ -53,6 +53,19 @@ dressed_run (Some c) x = start c ++ x ++ close c
 abbrev pub IsRunFirst : List CarriedPart → Option Rendition → List ℕ → List CarriedPart → Type 0
 IsRunFirst old style x new = (p : CarriedPart) × (old ≡ p ∷ new) × (p.borrowed ≡ not (is_some style)) × (p.bytes ≡ dressed_run style x)
 
+-- a stretch as a part: itself, or between the start of the style before it and the close of the style after it
+abbrev pub dressed_stretch : Option (Rendition × Rendition) → List ℕ → List ℕ
+dressed_stretch None x = x
+dressed_stretch (Some (c, d)) x = start c ++ x ++ close_if_any d
+
+-- the part is the stretch x with these styles around it, a borrow if there are none
+abbrev pub IsStretch : CarriedPart → Option (Rendition × Rendition) → List ℕ → Type 0
+IsStretch p styles x = (p.borrowed ≡ not (is_some styles)) × (p.bytes ≡ dressed_stretch styles x)
+
+-- the first of these parts is that; the others are left
+abbrev pub IsStretchFirst : List CarriedPart → Option (Rendition × Rendition) → List ℕ → List CarriedPart → Type 0
+IsStretchFirst old styles x new = (p : CarriedPart) × (old ≡ p ∷ new) × IsStretch p styles x
+
 -- all of t without its first `skip` plain bytes, with every mark, between the start of c and the close of the style then
 unfoldable pub span_text : Rendition → List ℕ → ℕ → List ℕ
 span_text c t skip = start c ++ interleaved (plain t) skip (length (plain t)) (marks t) ++ close_if_any (style_after_from c t)

@@ -1,12 +1,19 @@
 -- What is left of a text that is split, as plain data.
-use Rattle.std.specs.Prelude.{◌≤◌, List, [], take, IsTrue, IsFalse, IsUtf8, if◌then◌else◌}
+use Rattle.std.specs.Prelude.{◌≤◌, List, [], take, Option, IsTrue, IsFalse, IsUtf8, if◌then◌else◌}
+use Rattle.std.specs.Option.{option_map}
 use Rattle.std.specs.Str.{IsCharBoundary}
 use Rattle.ansi_items.specs.Plain.{plain, has_escape}
 use Rattle.ansi_search.specs.Positions.{is_char_boundary}
-use Rattle.ansi_style.specs.States.{rendition_of_numbers}
+use Rattle.ansi_style.specs.declared.state.rendition.Rendition.{Rendition}
+use Rattle.ansi_style.specs.States.{rendition_of, rendition_of_numbers}
 use Rattle.ansi_split.specs.Splits.{CarriedPart}
 use Rattle.ansi_split.specs.Spans.{parts_left}
+use Rattle.ansi_split.specs.declared.walks.Around.{Around}
 use Rattle.ansi_split.specs.declared.walks.PartWalk.{PartWalk}
+
+-- the styles before and after a stretch, if it has any
+abbrev pub renditions_around : Option Around → Option (Rendition × Rendition)
+renditions_around around = option_map (λ (a : Around). (rendition_of a.before, rendition_of a.after)) around
 
 -- the parts that a walk has left
 abbrev pub parts_of_walk : PartWalk → List CarriedPart

@@ -4,9 +4,9 @@ ghost use Rattle.std.specs.Prelude.{◌≡◌, ◌∷◌, IsFalse, IfSome};
 ghost use Rattle.std.specs.Option.{MatchOption, option_map};
 ghost use Rattle.ansi_items.specs.Plain.{has_escape};
 ghost use Rattle.ansi_style.specs.States.{rendition_of, rendition_of_numbers};
-ghost use Rattle.ansi_split.specs.Spans.{span_part, IsRunFirst};
+ghost use Rattle.ansi_split.specs.Spans.{span_part, IsRunFirst, IsStretchFirst};
 ghost use Rattle.ansi_split.specs.Splits.{split_parts, GivesPart};
-ghost use Rattle.ansi_split.specs.Walks.{parts_of_walk, IsPartWalk};
+ghost use Rattle.ansi_split.specs.Walks.{parts_of_walk, renditions_around, IsPartWalk};
 
 use crate::split::cursors::Cursor;
 use crate::split::rest::Rest;
@@ -91,6 +91,22 @@ pub struct PartRun<'a> {
     pub style: Option<Style>,
 }
 
+/// The styles around a part: that before it, which is set in front of it, and that after it, which
+/// is reset then if it has anything to reset. (Own.)
+#[derive(Clone, Copy)]
+pub struct Around {
+    pub before: Style,
+    pub after: Style,
+}
+
+/// A part that is written from one stretch of the text, with its sequences, and the styles around
+/// it. A part that is a borrow has none. (Own.)
+#[derive(Clone, Copy)]
+pub struct PartStretch<'a> {
+    pub text: &'a str,
+    pub around: Option<Around>,
+}
+
 /// A walk that has all parts left. (Own.)
 pub fn walk_in<'a>(text: &'a str, pat: &'a str) -> PartWalk<'a>
     ensures walk { IsPartWalk result }
@@ -118,6 +134,20 @@ pub fn next_run_in<'a>(walk: &mut PartWalk<'a>) -> Option<PartRun<'a>>
         text,
         style: Some(carried),
     })
+}
+
+/// The first part of a walk, if it is written from one stretch of the text, and the walk after it.
+/// `None` says nothing. Doesn't allocate. (Own.)
+#[inline(always)]
+pub fn first_stretch<'a>(walk: &PartWalk<'a>) -> Option<(PartStretch<'a>, PartWalk<'a>)>
+    requires { IsPartWalk walk.now }
+    ensures walk { IfSome result (λ r. IsPartWalk r.1) }
+    ensures first { IfSome result (λ r. IsStretchFirst (parts_of_walk walk.now)
+        (renditions_around r.0.around) r.0.text.now (parts_of_walk r.1)) }
+{
+    let mut spans = PartSpans::of(walk);
+    let stretch = spans.next()?.stretch()?;
+    Some((stretch, spans.walk()))
 }
 
 /// The next part of a walk, as [`split_in`] returns it. (Own.)

@@ -900,8 +900,8 @@ static inline ansi_str_answer ansi_str_parts_begin(const char *text, size_t text
 /* The next part of a walk, as ansi_str_split returns it. If the part occurs unchanged in the text, it is in `part`, otherwise
    in the buffer; the other is empty. ANSI_STR_NO: there is none left. With any status but ANSI_STR_OK `part` is empty and
    the walk is unchanged, so the call can be made again. A call reads up to the end of its part, so all parts cost one walk.
-   A part in the buffer is at most ANSI_STR_LONGEST_START_AND_CLOSE bytes longer than its stretch of the text. Allocates for it,
-   unless no ESC is in it or between it and the match before, and the style around it has a start and a close of at most 32 bytes. */
+   A part in the buffer is at most ANSI_STR_LONGEST_START_AND_CLOSE bytes longer than its stretch of the text. Allocates for
+   it only if a sequence is inside the match before it, or if the start or the close around it has more than 32 bytes. */
 static inline ansi_str_answer ansi_str_parts_next(ansi_str_part_walk *walk, ansi_str_next_part *part, char *buffer,
                                                   size_t buffer_len) {
     *part = ansi_str_no_part();

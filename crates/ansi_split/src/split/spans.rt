@@ -1,6 +1,6 @@
 //! The stretches of a text that its parts are written from.
 ghost use Rattle.std.specs.Prelude.{◌≡◌, ◌≤◌, ◌+◌, ◌++◌, [], length, IsTrue, IsFalse, IsOk, IfOk};
-ghost use Rattle.std.specs.Prelude.{OnOk, OnErr, string_bytes};
+ghost use Rattle.std.specs.Prelude.{OnOk, OnErr, IfSome, string_bytes};
 ghost use Rattle.std.specs.Option.{MatchOption};
 ghost use Rattle.ansi_items.specs.Plain.{plain, marks, has_escape};
 ghost use Rattle.ansi_slice.specs.Cut.{interleaved};
@@ -9,10 +9,11 @@ ghost use Rattle.ansi_style.specs.Rendition.{plain_style};
 ghost use Rattle.ansi_style.specs.Writing.{KeepsText};
 ghost use Rattle.ansi_style.specs.Written.{longest_start_and_close};
 ghost use Rattle.ansi_split.specs.Splits.{IsCarriedPart};
-ghost use Rattle.ansi_split.specs.Spans.{parts_left, IsBareFirst};
+ghost use Rattle.ansi_split.specs.Spans.{parts_left, IsBareFirst, IsStretch};
+ghost use Rattle.ansi_split.specs.Walks.{renditions_around};
 
 use crate::split::cursors::Cursor;
-use crate::walks::PartWalk;
+use crate::walks::{Around, PartStretch, PartWalk};
 use ansi_items::ESC;
 use ansi_items::ansitok::{Kind, Scanner};
 use ansi_style::numbers::StyleNumbers;
@@ -98,6 +99,25 @@ impl<'t> PartSpan<'t> {
         None
     }
 
+    /// The part, if it is written from one stretch of the text. `None` means that a sequence is among
+    /// the bytes that are left out.
+    pub(crate) fn stretch(&self) -> Option<PartStretch<'t>>
+        ensures { IfSome result (λ s. IsStretch self.now (renditions_around s.around) s.text.now) }
+    {
+        if let Some(text) = self.bare() {
+            return Some(PartStretch { text, around: None });
+        }
+        let text = past_plain(self.text, self.is_marked, self.skip)?;
+        let around = Around {
+            before: self.carried,
+            after: self.after,
+        };
+        Some(PartStretch {
+            text,
+            around: Some(around),
+        })
+    }
+
     /// Appends the part. `Err` means out of memory; what was appended before it stays.
     #[tactic(auto, using(ansi_style::proofs::FrontLemmas::keeps))]
     pub(crate) fn push_to<A: Allocator>(&self, out: &mut String<A>) -> Result<(), AllocError>
@@ -145,6 +165,20 @@ impl<'t> PartSpan<'t> {
     }
 }
 
+/// A text with its sequences, but without its first `skip` plain bytes, if that is a stretch of it.
+/// `None` means that a sequence is among the bytes that are left out.
+fn past_plain(text: &str, is_marked: bool, skip: usize) -> Option<&str>
+    requires marked { is_marked ≡ has_escape text.now }
+    requires boundary { IsTrue (is_char_boundary (plain text.now) skip) }
+    ensures { IfSome result (λ rest. rest.now
+        ≡ interleaved (plain text.now) skip (length (plain text.now)) (marks text.now)) }
+{
+    if is_marked && memchr(ESC, &text.as_bytes()[..skip]).is_some() {
+        return None;
+    }
+    Some(&text[skip..])
+}
+
 /// Appends a text with its sequences, but without its first `skip` plain bytes. `Err` means out of
 /// memory; what was appended before it stays.
 #[tactic(auto, using(ansi_style::proofs::FrontLemmas::keeps))]
@@ -160,9 +194,8 @@ fn write_text<A: Allocator>(
         ++ interleaved (plain text.now) skip (length (plain text.now)) (marks text.now)) }
     ensures kept { KeepsText (string_bytes part.old) (string_bytes part.new) }
 {
-    if !is_marked || memchr(ESC, &text.as_bytes()[..skip]).is_none() {
-        // Sequences come only after the bytes that are left out.
-        return part.push_str(&text[skip..]);
+    if let Some(rest) = past_plain(text, is_marked, skip) {
+        return part.push_str(rest);
     }
     for item in Scanner::new(text) {
         let piece = &text[item.start..item.end];
