@@ -2,6 +2,7 @@ pub mod Utf8Lemmas
 pub mod StepLemmas
 pub mod GivenLemmas
 pub mod ListLemmas
+pub mod CopyLemmas
 pub mod ByteLemmas
 pub mod LineListLemmas
 pub mod LinkListLemmas

@@ -13,6 +13,7 @@ pub mod edits;
 pub mod lines;
 pub mod links;
 pub mod lists;
+mod parts;
 pub mod pens;
 pub mod replacements;
 pub mod restyles;

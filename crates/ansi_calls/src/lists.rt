@@ -18,10 +18,12 @@ ghost use Rattle.ansi_calls.specs.Lists.{none, ends_from, AreEntries};
 ghost use Rattle.ansi_calls.specs.Lists.{IsBlockEntry, styled_text, IsStyledBlockEntry};
 ghost use Rattle.ansi_calls.specs.Lists.{whole_block, given_bytes, AreCopied};
 ghost use Rattle.ansi_calls.specs.Lists.{AreWritten, AreCopiedSoFar, Copies, Fit};
-ghost use Rattle.ansi_calls.specs.Lists.{IsCountWithoutRoom, GivesAll, HaveFailed};
+ghost use Rattle.ansi_calls.specs.Lists.{IsCountWithoutRoom, GivesAll, HaveFailed, PutsText};
+ghost use Rattle.ansi_style.specs.declared.styles.TheConstants.{SHORT};
 ghost use Rattle.ansi_calls.specs.Calls.{Splits, ListsAs, ListsBlocks, ListsStyledBlocks};
 
 use crate::answers::{NOT_UTF8, OK, OUT_OF_MEMORY, TOO_SMALL};
+use crate::parts::write_few_parts;
 use ansi_safe::utf8::from_utf8;
 use ansi_str::split::{PushNext, split_in};
 use ansi_str::{AnsiBlock, AnsiStr, get_blocks, laws};
@@ -188,6 +190,9 @@ pub fn split<A: Allocator + Copy>(
     };
     if !text.ansi_has_any() {
         return write_bare_parts(alloc, text, pat, buffer, ends);
+    }
+    if let Some(answer) = write_few_parts(alloc, text, pat, buffer, ends) {
+        return answer;
     }
     write_texts(alloc, text.len(), split_in(alloc, text, pat), buffer, ends)
 }
@@ -359,7 +364,7 @@ pub(crate) fn copy_texts<
 /// Writes one text more after those that are copied, and where it ends, as far as there is room.
 /// Returns their number and their total length.
 #[inline(always)]
-fn put_text(
+pub(crate) fn put_text(
     text: &[u8],
     copied: (usize, usize),
     buffer: &mut [u8],
@@ -375,6 +380,35 @@ fn put_text(
     let len = put(text, len, buffer);
     let count = put(&[len], count, ends);
     (count, len)
+}
+
+/// Copies one text more, between two short ones, after those that are copied, and where it ends, if
+/// there is room for that. Returns their number and their total length. `None` means that there is no
+/// room for the bytes.
+pub(crate) fn put_between(
+    start: &str,
+    text: &str,
+    close: &str,
+    copied: (usize, usize),
+    buffer: &mut [u8],
+    ends: &mut [usize],
+) -> Option<(usize, usize)>
+    requires start { length start.now ≤ SHORT }
+    requires close { length close.now ≤ SHORT }
+    requires count { copied.0 ≤ length ends.old }
+    requires len { copied.1 ≤ length buffer.old }
+    ensures { IfSome result (λ more. PutsText (start.now ++ text.now ++ close.now) copied more
+        buffer.old buffer.new ends.old ends.new) }
+{
+    let (count, len) = copied;
+    if buffer.len() - len < start.len() + text.len() + close.len() {
+        return None;
+    }
+    let after_start = put(start.as_bytes(), len, buffer);
+    let after_text = put(text.as_bytes(), after_start, buffer);
+    let end = put(close.as_bytes(), after_text, buffer);
+    let count = put(&[end], count, ends);
+    Some((count, end))
 }
 
 /// Copies items to a place in a slice, if there is room for them. Returns the place after them.

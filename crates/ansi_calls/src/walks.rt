@@ -250,7 +250,7 @@ fn marked_part<'a, A: Allocator + Copy>(
 }
 
 /// The close of a style that has anything to reset, if it is short. `None` says nothing.
-fn close_if_any(style: &Style) -> Option<ArrayString<SHORT>>
+pub(crate) fn close_if_any(style: &Style) -> Option<ArrayString<SHORT>>
     ensures { IfSome result (λ s. s.bytes ≡ close_if_any (rendition_of style.now)) }
 {
     if !styles::has_any(style) {

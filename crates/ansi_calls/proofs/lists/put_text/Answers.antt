@@ -1,17 +1,10 @@
 use Rattle.std.proofs.Common.{◌≡◌, ◌∙◌, ◌≤◌, ◌+◌, ◌∷◌, [], ◌++◌, List, ℕ, length, take, drop, sym, ap, ap₂, arith, length-append}
-use Rattle.std.proofs.lemmas.List.{length_push, map-id}
+use Rattle.std.proofs.lemmas.List.{length_push}
 use Rattle.ansi_calls.specs.Lists.{ends_from}
-use Rattle.ansi_calls.proofs.GivenLemmas.{joined_texts, joined-more, ends-more, written-more}
+use Rattle.ansi_calls.proofs.CopyLemmas.{joined_one, ends_one}
+use Rattle.ansi_calls.proofs.GivenLemmas.{joined_texts, written-more}
 use Rattle.ansi_calls.proofs.ListLemmas.{length-ends_from}
 use Rattle.ansi_calls.proofs.lists.put_text.Goals as goal
-
-joined_one : (texts : List (List ℕ)) (x : List ℕ) → joined_texts (texts ++ x ∷ []) ≡ joined_texts texts ++ x
-joined_one texts x = ap joined_texts (sym (map-id (texts ++ x ∷ []))) ∙ joined-more (λ t. t) texts x ∙ ap (λ us. joined_texts us ++ x) (map-id texts)
-
-ends_one : (texts : List (List ℕ)) (x : List ℕ) → ends_from 0 (texts ++ x ∷ []) ≡ ends_from 0 texts ++ (0 + length (joined_texts texts) + length x) ∷ []
-ends_one texts x =
-    ap (ends_from 0) (sym (map-id (texts ++ x ∷ []))) ∙ ends-more (λ t. t) 0 texts x
-    ∙ ap (λ us. ends_from 0 us ++ (0 + length (joined_texts us) + length x) ∷ []) (map-id texts)
 
 -- one text more is written, with its end
 pub returns : goal.returns
