@@ -19,7 +19,7 @@ pub use Rattle.std.specs.Prelude.{IfSome, unwrap_or}
 pub use Rattle.std.specs.Str.{IsCharBoundary, IsUtf8}
 pub use Rattle.std.specs.Str.Pattern.{FindsText, HasTextAt, LacksTextAt, MatchBeginsAt}
 pub use Rattle.memchr.proofs.lemmas.CriticalLemmas.{IsCutPlace-of, NoPeriodBelow-least, NoPeriodBelow-rest}
-pub use Rattle.memchr.proofs.lemmas.FindLemmas.{IsFirst-agree, IsFirst-wider, Nowhere-then, OccursAt-byte, byte-OccursAt}
+pub use Rattle.memchr.proofs.lemmas.FindLemmas.{IsFirst-agree, IsFirst-wider, Nowhere-more, Nowhere-then, OccursAt-byte, byte-OccursAt}
 pub use Rattle.memchr.proofs.lemmas.MatchLemmas.{OccursAt-from_part, OccursAt-split}
 pub use Rattle.memchr.proofs.lemmas.SearchLemmas.{Nowhere-left, Nowhere-right, known-next}
 pub use Rattle.memchr.proofs.lemmas.SuffixLemmas.{IsScan, IsScan-accept, IsScan-block, IsScan-end, IsScan-push, IsScan-skip}

@@ -1,5 +1,5 @@
 -- A search that goes forward by the cut of a pattern, a window at a time.
-use Rattle.ansi_search.proofs.Common.{◌≡◌, ◌≢◌, ℕ, ◌+◌, ◌-◌, ◌<◌, ◌≤◌, inl, inr, true, false, List, ◌∷◌, ◌++◌, take, drop, length, nat_eq, IsTrue, Some, None, refl, sym, ◌∙◌, ap, arith, slice_index, and_parts, cases_lt, eq-eqb, true≢false, get_or-take, get_or_append_left, get_or-append-add, length-take-le, length-drop, length-append, drop-drop, drop-append-le, drop_at, take_at, IsCharBoundary-start, starts_with, slice_range, IsUtf8, Nowhere, OccursAt, Passes, is_byte, OccursIn, Nowhere-then, OccursAt-split, OccursAt-from_part, Nowhere-right, Nowhere-left, known-next, Item, Piece, Text, spelling, ArePieces, pieces_of, plain, plain_of, Scan, GivesItem, pieces_left, gives_text, pieces_are, length-plain, CriticalCut, Point, Window, first_match_from, is_char_boundary, IsCut, MatchesBetween, IsReached, IsPoint, IsWindow, IsMismatch, StandsNowhere, LacksRareByte, []}
+use Rattle.ansi_search.proofs.Common.{◌≡◌, ◌≢◌, ℕ, ◌+◌, ◌-◌, ◌<◌, ◌≤◌, inl, inr, true, false, List, ◌∷◌, ◌++◌, take, drop, length, nat_eq, IsTrue, Some, None, refl, sym, ◌∙◌, ap, arith, slice_index, and_parts, cases_lt, eq-eqb, true≢false, get_or-take, get_or-drop, get_or_append_left, get_or-append-add, length-take-le, length-drop, length-append, drop-drop, drop-append-le, drop_at, take_at, IsCharBoundary-start, starts_with, slice_range, IsUtf8, Nowhere, OccursAt, Passes, is_byte, OccursIn, Nowhere-then, OccursAt-split, OccursAt-from_part, Nowhere-right, Nowhere-left, known-next, Item, Piece, Text, spelling, ArePieces, pieces_of, plain, plain_of, Scan, GivesItem, pieces_left, gives_text, pieces_are, length-plain, CriticalCut, Point, Window, first_match_from, is_char_boundary, IsCut, MatchesBetween, IsReached, IsPoint, IsWindow, IsMismatch, StandsNowhere, LacksRareByte, []}
 use Rattle.std.proofs.Math.Seq.{get_or-append_right}
 use Rattle.ansi_items.specs.declared.ansitok.Kind.TheVariants.{Text as TextKind}
 use Rattle.ansi_search.proofs.MatchLemmas.{IsMatch, is_match-utf8, starts_with-occurs, starts_with-from, first_match_from-is}
@@ -38,6 +38,11 @@ apart-both x p i c within other occurs =
     }))) ∙ other)
 
 -- What a comparison shows.
+
+-- the pattern doesn't occur where its first byte doesn't
+pub nowhere-without : (w p v : List ℕ) (b at n : ℕ) → 0 < length p → slice_index p 0 ≡ b → v ≡ drop at w → Nowhere (Passes (is_byte b) v) 0 n → Nowhere (OccursAt w p) at (at + n)
+nowhere-without w p v b at n some first rest none k low high occurs =
+    none (k - at) (omega arith) (omega (arith, low, high)) (eq-eqb _ _ (ap (λ u. slice_index u (k - at)) rest ∙ get_or-drop at w (k - at) 0 ∙ ap (slice_index w) (omega (arith, low)) ∙ occurs.reads 0 some ∙ first))
 
 Nowhere-OccursAt : (x p : List ℕ) (i j : ℕ) → Nowhere (OccursIn (slice_index p) (length p) (slice_index x) (length x)) i j → Nowhere (OccursAt x p) i j
 Nowhere-OccursAt x p i j none k low high occurs = none k low high (record { fits = occurs.fits; reads = occurs.reads })

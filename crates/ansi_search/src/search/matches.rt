@@ -1,13 +1,13 @@
 //! Where a pattern occurs in a plain text. A match may run across sequences.
 ghost use Rattle.std.specs.Prelude.{◌≡◌, ◌<◌, ◌≤◌, ◌+◌, ◌^◌, [], length, None, Some, MatchOption};
-ghost use Rattle.std.specs.Prelude.{IfSome, IsTrue};
+ghost use Rattle.std.specs.Prelude.{IfSome, IsTrue, slice_index};
 ghost use Rattle.std.specs.Str.Pattern.{FindsText, MatchBeginsAt};
 ghost use Rattle.memchr.specs.Find.{IsFirst, FindsNeedle};
 ghost use Rattle.ansi_items.specs.Plain.{plain};
 ghost use Rattle.ansi_search.specs.Positions.{is_good_range};
 ghost use Rattle.ansi_search.specs.Matches.{is_match, first_match_from};
 
-use crate::search::two_way::{Pattern, Point, RunResult};
+use crate::search::two_way::{Pattern, Point, RunResult, rare_place};
 use ansi_items::ESC;
 use ansi_items::ansitok::{Kind, Scanner};
 use memchr::memchr;
@@ -93,6 +93,21 @@ fn find_bytes(run: &[u8], pat: &[u8]) -> Option<usize>
 {
     match pat {
         [byte] => memchr(*byte, run),
+        _ => find_several(run, pat),
+    }
+}
+
+/// The longest run in which a pattern is compared wherever its first byte is. A `Finder` is quicker in a
+/// longer one, but has more to prepare.
+const SHORT_RUN: usize = 32;
+
+/// The same for several bytes. (Not inlined, so that a search for one byte keeps its registers.)
+#[inline(never)]
+fn find_several(run: &[u8], pat: &[u8]) -> Option<usize>
+    ensures { FindsNeedle run.now pat.now 0 result }
+{
+    match pat {
+        [first, ..] if run.len() <= SHORT_RUN => find_from_first(run, *first, pat),
         _ => {
             let finder = Finder::new(pat);
             let found = finder.find(run);
@@ -103,6 +118,23 @@ fn find_bytes(run: &[u8], pat: &[u8]) -> Option<usize>
     }
 }
 
+/// The same by a search for the pattern's first byte.
+fn find_from_first(run: &[u8], first: u8, pat: &[u8]) -> Option<usize>
+    requires some { 0 < length pat.now }
+    requires first { slice_index pat.now 0 ≡ first }
+    ensures { FindsNeedle run.now pat.now 0 result }
+{
+    let mut at = 0;
+    'places: while let Some(distance) = memchr(first, &run[at..]) {
+        at += distance;
+        if run[at..].starts_with(pat) {
+            return Some(at);
+        }
+        at += 1;
+    }
+    None
+}
+
 /// Like [`find_from`], by a walk over the items, for a pattern that isn't empty.
 fn find_across(text: &str, pat: &str, from: usize) -> Option<usize>
     requires some { 0 < length pat.now }
@@ -111,8 +143,14 @@ fn find_across(text: &str, pat: &str, from: usize) -> Option<usize>
     if text.len() < from {
         return None;
     }
+    let rare = pat.as_bytes()[rare_place(pat.as_bytes())];
+    let first = memchr(rare, text.as_bytes())?;
     let pattern = Pattern::new(pat);
-    let next = memchr(pattern.rare_byte(), text.as_bytes())?;
+    let next = if pattern.rare_byte() == rare {
+        first
+    } else {
+        memchr(pattern.rare_byte(), text.as_bytes())?
+    };
     let mut place = 0;
     let mut window = pattern.first_window(from, next);
     for item in Scanner::new(text) {

@@ -256,7 +256,7 @@ fn last_point(point: Point, here: Point, position: usize) -> Point
 }
 
 /// The place of a byte that is rare in most texts, by the ranks of `memchr`.
-fn rare_place(bytes: &[u8]) -> usize
+pub(super) fn rare_place(bytes: &[u8]) -> usize
     requires { 0 < length bytes.now }
     ensures { result < length bytes.now }
 {

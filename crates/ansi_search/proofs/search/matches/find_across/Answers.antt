@@ -5,15 +5,24 @@ use Rattle.ansi_search.proofs.search.matches.find_across.Goals as goal
 pub returns-then-text-from : goal.returns-then-text-from
 returns-then-text-from c = none-past (plain c.args.text.now) c.args.pat.now c.args.from (omega (arith, c.if-text-from.true, length-plain c.args.text.now))
 
+-- a byte of the pattern doesn't occur
+pub returns-in_err-first : goal.returns-in_err-first
+returns-in_err-first c =
+    let t = c.args.text.now in
+    let p = c.args.pat.now in
+    rw c.from_residual.ensures
+    (none-without t p c.args.from c.rare_place.result (omega (arith, c.rare_place.ensures, ap length c.as_bytes-2.ensures.value))
+    (λ j low high passes. c.in_err-first.ensures j low (omega (arith, high, ap length c.as_bytes-3.ensures.value)) (ap₂ (λ b v. is_byte b (slice_index v j)) (ap (λ v. slice_index v c.rare_place.result) c.as_bytes.ensures.value) c.as_bytes-3.ensures.value ∙ passes)))
+
 -- the rare byte doesn't occur
 pub returns-in_err-next : goal.returns-in_err-next
 returns-in_err-next c =
     let p = c.new-pattern.result.bytes.now in
     let is_cut : IsCut p c.new-pattern.result.cut = c.new-pattern.result.is_cut in
     let within : c.new-pattern.result.rare ≤ c.new-pattern.result.cut.at = c.new-pattern.result.rare_within in
-    rw c.from_residual.ensures
+    rw c.from_residual-in_err-next.ensures
     (none-without c.args.text.now p c.args.from c.new-pattern.result.rare (omega (arith, within, is_cut.below))
-    (λ j low high passes. c.in_err-next.ensures j low (omega (arith, high, ap length c.as_bytes.ensures.value)) (ap₂ (λ b v. is_byte b (slice_index v j)) c.rare_byte.ensures c.as_bytes.ensures.value ∙ passes))
+    (λ j low high passes. c.in_err-next.ensures j low (omega (arith, high, ap length c.as_bytes-else-rare_byte-rare.ensures.value)) (ap₂ (λ b v. is_byte b (slice_index v j)) c.rare_byte-else-rare_byte-rare.ensures c.as_bytes-else-rare_byte-rare.ensures.value ∙ passes))
     ∙ ap (λ q. first_match_from (plain c.args.text.now) q c.args.from) c.new-pattern.ensures)
 
 pub read-requires-clause-run : goal.read-requires-clause-run

@@ -10,7 +10,3 @@ returns-in-len1 c =
     IsFirst-wider (OccursAt hay p) 0 (length hay) (length hay + 1) (omega arith) (λ k occurs. omega (arith, one, occurs.fits)) c.memchr.result
     (IsFirst-agree (Passes (is_byte (slice_index p 0)) hay) (OccursAt hay p) 0 (length hay) (OccursAt-byte hay p one) (λ k inside occurs. byte-OccursAt hay p one k occurs) c.memchr.result
     c.memchr.ensures)
-
--- the finder looks for the pattern
-pub returns-in_default : goal.returns-in_default
-returns-in_default c = rw c.new-finder.ensures at c.find-found.ensures
