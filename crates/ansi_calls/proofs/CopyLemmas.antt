@@ -1,9 +1,7 @@
 -- The parts that are copied one after the other, and those that a walk has left.
 use Rattle.std.proofs.Common.{◌≡◌, ◌∙◌, ◌≤◌, ◌+◌, ◌∷◌, [], ◌++◌, List, ℕ, length, take, drop, map, refl, sym, ap, subst, arith, append_assoc, append-nil}
 use Rattle.std.proofs.lemmas.List.{map-id, take_at}
-use Rattle.ansi_str.specs.Parts.{all_parts}
-use Rattle.ansi_split.specs.Splits.{CarriedPart, split_parts}
-use Rattle.ansi_split.proofs.SplitLemmas.{bytes-parts_left, parts_left-parts}
+use Rattle.ansi_split.specs.Splits.{CarriedPart}
 use Rattle.ansi_calls.specs.declared.lists.ListAnswer.{ListAnswer}
 use Rattle.ansi_calls.specs.Lists.{ends_from, AreCopied, AreCopiedSoFar, AreWritten, PutsText}
 use Rattle.ansi_calls.proofs.GivenLemmas.{joined_texts, joined-more, ends-more}
@@ -40,9 +38,6 @@ pub all_copied : (all left : List CarriedPart) (copied : ℕ × ℕ) (old new ol
     → AreCopied (bytes_of all) copied old new old_ends new_ends
 all_copied all left copied old new old_ends new_ends none so_far =
     subst (λ ts. AreCopied ts copied old new old_ends new_ends) (sym (append-nil so_far.0) ∙ ap (λ ps. so_far.0 ++ bytes_of ps) (sym none) ∙ so_far.1) so_far.2.0
-
-pub bytes-split_parts : (t p : List ℕ) → bytes_of (split_parts t p) ≡ all_parts t p
-bytes-split_parts t p = ap bytes_of (sym (parts_left-parts t p)) ∙ bytes-parts_left t p
 
 -- what was copied is at the front of both buffers, if it fits
 

@@ -1,19 +1,15 @@
 //! The parts of a short text, copied to the stack first, so that nothing is allocated.
 ghost use Rattle.std.specs.Prelude.{◌≡◌, ◌≤◌, length, map, flat_map, IfNone, IfSome};
-ghost use Rattle.std.specs.Option.{option_map};
 ghost use Rattle.ansi_str.specs.Parts.{all_parts};
-ghost use Rattle.ansi_style.specs.States.{rendition_of};
-ghost use Rattle.ansi_split.specs.Spans.{dressed_run, dressed_stretch};
-ghost use Rattle.ansi_split.specs.Walks.{parts_of_walk, renditions_around, IsPartWalk};
+ghost use Rattle.ansi_split.specs.Spans.{dressed_stretch};
+ghost use Rattle.ansi_split.specs.Walks.{renditions_around};
 ghost use Rattle.ansi_calls.specs.Lists.{ends_from, AreCopied, AreWritten, PutsText};
 
 use crate::lists::{ListAnswer, put_between, put_text, write_list};
 use crate::shown::short_start;
-use crate::walks::close_if_any;
-use ansi_split::walks::{
-    PartRun, PartStretch, PartWalk, first_stretch, next_in, next_run_in, walk_in,
-};
-use ansi_style::styles;
+use crate::walks::{adds_nothing, close_if_any};
+use ansi_split::split::{AnsiSplit, split_in};
+use ansi_split::walks::{PartStretch, next_stretch_in};
 use std::alloc::Allocator;
 
 /// The most bytes of a text whose parts are copied there.
@@ -43,74 +39,36 @@ pub(crate) fn write_few_parts<A: Allocator + Copy>(
     }
     let mut few = [0; FEW_BYTES];
     let mut few_ends = [0; FEW_ENDS];
-    let (count, len) = copy_parts(alloc, walk_in(text, pat), &mut few, &mut few_ends)?;
+    let (count, len) = copy_parts(split_in(alloc, text, pat), &mut few, &mut few_ends)?;
     Some(write_list(&few[..len], &few_ends[..count], buffer, ends))
 }
 
-/// Copies the parts that a walk has left, and where each ends. Returns their number and their total
+/// Copies the parts that a split has left, and where each ends. Returns their number and their total
 /// length. `None` means that there is no room, or that one isn't written from a stretch of the text
 /// between a short start and a short close.
-fn copy_parts<A: Allocator + Copy>(
-    alloc: A,
-    walk: PartWalk<'_>,
+fn copy_parts<'a, A: Allocator + Copy>(
+    parts: AnsiSplit<'a, A>,
     buffer: &mut [u8],
     ends: &mut [usize],
 ) -> Option<(usize, usize)>
-    requires { IsPartWalk walk }
-    ensures copied { IfSome result (λ copied. AreCopied (map (λ p. p.bytes) (parts_of_walk walk.entry)) copied
+    ensures copied { IfSome result (λ copied. AreCopied (map (λ p. p.bytes) parts.entry) copied
         buffer.old buffer.new ends.old ends.new) }
     ensures fit { IfSome result (λ copied. (copied.0 ≤ length ends.old) × (copied.1 ≤ length buffer.old)) }
 {
-    let mut left = walk;
+    let mut left = parts;
     let mut copied = (0, 0);
-    'parts: loop {
-        if let Some(run) = next_run_in(&mut left) {
-            copied = put_run(&run, copied, buffer, ends)?;
-        } else if let Some((stretch, later)) = first_stretch(&left) {
-            copied = put_stretch(&stretch, copied, buffer, ends)?;
-            left = later;
-        } else {
-            return match next_in(alloc, &mut left) {
-                None => Some(copied),
-                Some(_) => None,
-            };
-        }
+    'parts: while let Some(stretch) = next_stretch_in(&mut left) {
+        copied = put_stretch(&stretch?, copied, buffer, ends)?;
         if ends.len() < copied.0 || buffer.len() < copied.1 {
             return None;
         }
     }
+    Some(copied)
 }
 
-/// Copies a run, and where it ends, after the texts that are copied. Returns their number and their
+/// Copies a part, and where it ends, after the texts that are copied. Returns their number and their
 /// total length. `None` means that there is no room, or that its start or its close isn't short.
 #[inline(always)]
-fn put_run(
-    run: &PartRun<'_>,
-    copied: (usize, usize),
-    buffer: &mut [u8],
-    ends: &mut [usize],
-) -> Option<(usize, usize)>
-    requires count { copied.0 ≤ length ends.old }
-    requires len { copied.1 ≤ length buffer.old }
-    ensures { IfSome result (λ more. PutsText (dressed_run (option_map rendition_of run.now.style) run.now.text.now)
-        copied more buffer.old buffer.new ends.old ends.new) }
-{
-    let Some(style) = &run.style else {
-        return Some(put_text(run.text.as_bytes(), copied, buffer, ends));
-    };
-    let start = styles::short_start(style)?;
-    let close = styles::short_close(style)?;
-    put_between(
-        start.as_str(),
-        run.text,
-        close.as_str(),
-        copied,
-        buffer,
-        ends,
-    )
-}
-
-/// The same for a part that has sequences.
 fn put_stretch(
     stretch: &PartStretch<'_>,
     copied: (usize, usize),
@@ -125,6 +83,9 @@ fn put_stretch(
     let Some(around) = &stretch.around else {
         return Some(put_text(stretch.text.as_bytes(), copied, buffer, ends));
     };
+    if adds_nothing(around) {
+        return Some(put_text(stretch.text.as_bytes(), copied, buffer, ends));
+    }
     let start = short_start(&around.before)?;
     let close = close_if_any(&around.after)?;
     put_between(

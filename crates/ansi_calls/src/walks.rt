@@ -1,11 +1,12 @@
 //! Calls that return the blocks and the parts of a text one by one. The walk is kept in the caller's
 //! memory.
-ghost use Rattle.std.specs.Prelude.{◌≡◌, not, ◌==◌, ◌≤◌, ◌++◌, length, Some, true, IsUtf8};
-ghost use Rattle.std.specs.Prelude.{IfOk, IfSome, string_bytes};
+ghost use Rattle.std.specs.Prelude.{◌≡◌, not, ◌==◌, ◌≤◌, ◌++◌, length, Some, true, IsUtf8, List, ℕ};
+ghost use Rattle.std.specs.Prelude.{IfOk, IfSome, IsTrue, MatchOption, string_bytes};
 ghost use Rattle.ansi_str.specs.Blocks.{sequences_before};
 ghost use Rattle.ansi_str.specs.States.{rendition_of, rendition_of_numbers};
 ghost use Rattle.ansi_str.specs.Written.{start, close, close_if_any};
-ghost use Rattle.ansi_split.specs.Walks.{IsPartWalk};
+ghost use Rattle.ansi_split.specs.Spans.{dressed_stretch};
+ghost use Rattle.ansi_split.specs.Walks.{renditions_around, IsPartWalk};
 ghost use Rattle.ansi_style.specs.declared.styles.TheConstants.{SHORT};
 ghost use Rattle.ansi_calls.specs.Answers.{no, Gives, IsWritten};
 ghost use Rattle.ansi_calls.specs.Walks.{IsOver, GivesNext, GivesNextPart};
@@ -16,7 +17,7 @@ use crate::lists::put;
 use crate::shown::short_start;
 use ansi_blocks::runs::{Run, first_styled_run, sequences_before};
 use ansi_safe::utf8::from_utf8;
-use ansi_split::walks::{PartWalk, first_stretch, next_in, next_run_in, walk_in};
+use ansi_split::walks::{Around, PartWalk, first_stretch, is_over, next_in, next_run_in, walk_in};
 use ansi_style::numbers::StyleNumbers;
 use ansi_style::state::Style;
 use ansi_style::styles;
@@ -228,6 +229,9 @@ fn marked_part<'a, A: Allocator + Copy>(
     ensures walk { IsPartWalk walk.new }
     ensures next { GivesNextPart walk.old walk.new part.old part.new result buffer.old buffer.new }
 {
+    if is_over(walk) {
+        return Answer::failed(NO);
+    }
     let Some((stretch, left)) = first_stretch(walk) else {
         return walked_part(alloc, walk, part, buffer);
     };
@@ -238,15 +242,37 @@ fn marked_part<'a, A: Allocator + Copy>(
         };
         return Answer::done(0);
     };
-    let (Some(start), Some(close)) = (short_start(&around.before), close_if_any(&around.after))
-    else {
+    let Some(answer) = write_dressed(stretch.text, &around, buffer) else {
         return walked_part(alloc, walk, part, buffer);
     };
-    let answer = write_between(start.as_str(), stretch.text, close.as_str(), buffer);
     if answer.status == OK {
         *walk = left;
     }
     answer
+}
+
+/// Writes a stretch with what sets and resets the styles around it, if that is short. After `None` the
+/// buffer is as it was.
+#[inline(always)]
+fn write_dressed(text: &str, around: &Around, buffer: &mut [u8]) -> Option<Answer>
+    ensures { MatchOption result (buffer.new ≡ buffer.old) (λ answer. IsWritten
+        (dressed_stretch (renditions_around (Some around.now)) text.now) answer buffer.old buffer.new) }
+{
+    if adds_nothing(around) {
+        return Some(write(text.as_bytes(), buffer));
+    }
+    let start = short_start(&around.before)?;
+    let close = close_if_any(&around.after)?;
+    Some(write_between(start.as_str(), text, close.as_str(), buffer))
+}
+
+/// Whether nothing is written before and after a stretch with these styles around it.
+#[inline(always)]
+pub(crate) fn adds_nothing(around: &Around) -> bool
+    ensures { IsTrue result → (x : List ℕ) →
+        dressed_stretch (renditions_around (Some around.now)) x ≡ x }
+{
+    !styles::has_any(&around.before) && !styles::has_any(&around.after)
 }
 
 /// The close of a style that has anything to reset, if it is short. `None` says nothing.

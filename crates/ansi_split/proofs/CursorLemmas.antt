@@ -1,5 +1,5 @@
 -- A part that ends in the plain run at the front.
-use Rattle.std.specs.Prelude.{IfSome, ◌⊎◌}
+use Rattle.std.specs.Prelude.{true, IfSome, ◌⊎◌, ◌≢◌}
 use Rattle.std.proofs.Common.{Bor}
 use Rattle.ansi_split.proofs.Common.{◌≡◌, ◌==◌, ne_eqb, eqb-false, inl, inr, false, ℕ, ◌≤◌, List, [], ◌∷◌, length, take, drop, max, Bool, Option, Some, None, MatchOption, if◌then◌else◌, refl, sym, ◌∙◌, ap, ap₂, arith, take_all, IsTrue, IsFalse, IsCharBoundary, plain, has_escape, is_char_boundary, Rendition, IsStyle, has_any, IsCutAtMatch, first_match_from, parts_left, span_part, CarriedPart}
 use Rattle.ansi_split.specs.Spans.{IsBareFirst, IsRunFirst}
@@ -70,3 +70,8 @@ pub run_next : {old new old' new' : List CarriedPart} (c : Rendition) (r : Optio
     → MatchOption r (new' ≡ old') (λ x. old' ≡ span_part c x.now 0 ∷ new')
 run_next c None old_is new_is same = sym new_is ∙ same ∙ old_is
 run_next c (Some x) old_is new_is first = sym old_is ∙ first ∙ ap (λ ps. span_part c x.now 0 ∷ ps) new_is
+
+-- no part is left exactly if the walk has finished
+pub finished-parts : (finished : Bool) (ps : List CarriedPart) → ps ≢ [] → (IsTrue finished → (if finished then [] else ps) ≡ []) × ((if finished then [] else ps) ≡ [] → IsTrue finished)
+finished-parts true ps some = (λ _. refl, λ _. refl)
+finished-parts false ps some = (λ no. absurd (cc no), λ none. absurd (some none))

@@ -1,4 +1,5 @@
 -- The parts that are left of a text: the first one, which is written from the text up to its end, and those of what follows.
+use Rattle.std.specs.Prelude.{◌≢◌}
 use Rattle.ansi_split.proofs.Common.{◌≡◌, ℕ, ◌+◌, ◌-◌, ◌≤◌, max, inl, inr, Bool, not, ◌&&◌, ◌||◌, ◌==◌, List, [], ◌∷◌, ◌++◌, length, map, take, drop, Option, Some, None, refl, sym, ◌∙◌, ap, ap₂, subst, arith, IsTrue, if◌then◌else◌, nat_eq, nat_lt, nat_le, length-append, cases_lt, and_parts, and_from, le-leb, nat_tests, length-map, length-drop, length-take-le, get_or-take, take_at, take-append-drop, filter_agree, IsUtf8-drop, IsCharBoundary-from_take, IsCharBoundary-start, starts_with, IsUtf8, pieces_of, Mark, plain, marks, marks_up_to, no_character_goes_on, is_char_boundary, Rendition, has_any, start, close_if_any, after_marks, style_after_from, style_within, interleaved, match_places, first_match_from, without_overlaps, marks_past, CarriedPart, marks_further_on, IsCutAfter, IsCutAtMatch, carried, part_from, parts_from, parts_left, span_part, slice_range-from_past, marks_up_to-marks_past, interleaved-text, IsUtf8-plain, at_places, at_places-further, good_is_boundary, no_character_goes_on-past, is_char_boundary-from, starts_with-splits}
 use Rattle.ansi_split.proofs.PartSliceLemmas.{own_places, marks_past-places, at_places-at_places}
 use Rattle.ansi_split.proofs.TakenLemmas.{is_first_taken, without_overlaps-none, intervals_between, intervals_between-further, moved_on}
@@ -96,6 +97,15 @@ pub parts_left-last : (c : Rendition) (t p : List ℕ) (skip from : ℕ) → fir
 unfolding parts_left
 parts_left-last c t p skip from none =
     ap (λ taken. parts_from c t None (intervals_between (length p) skip (length (plain t)) taken)) (without_overlaps-none (length p) from (match_places (plain t) p) none)
+
+-- There is always one.
+between-some : (c : Rendition) (t : List ℕ) (n skip end : ℕ) (taken : List ℕ) → parts_from c t None (intervals_between n skip end taken) ≢ []
+between-some c t n skip end [] = λ none. cc
+between-some c t n skip end (m ∷ ms) = λ none. cc
+
+pub parts_left-some : (c : Rendition) (t p : List ℕ) (skip from : ℕ) → parts_left c t p skip from ≢ []
+unfolding parts_left
+parts_left-some c t p skip from = between-some c t (length p) skip (length (plain t)) (without_overlaps (length p) from (match_places (plain t) p))
 
 -- and with one at m, the first is what comes before it.
 pub parts_left-first : (c : Rendition) (t p : List ℕ) (skip from : ℕ) (front after : List ℕ) → IsCutAtMatch t p from front after

@@ -1,6 +1,6 @@
 //! Splits that are paused, in memory that isn't Rattle's. They have a module of their own, since
 //! `ansi_str` passes `split` on.
-ghost use Rattle.std.specs.Prelude.{◌≡◌, ◌∷◌, IsFalse, IfSome};
+ghost use Rattle.std.specs.Prelude.{◌≡◌, ◌↔◌, ◌∷◌, [], IsTrue, IsFalse, IfSome};
 ghost use Rattle.std.specs.Option.{MatchOption, option_map};
 ghost use Rattle.ansi_items.specs.Plain.{has_escape};
 ghost use Rattle.ansi_style.specs.States.{rendition_of, rendition_of_numbers};
@@ -8,6 +8,7 @@ ghost use Rattle.ansi_split.specs.Spans.{span_part, IsRunFirst, IsStretchFirst};
 ghost use Rattle.ansi_split.specs.Splits.{split_parts, GivesPart};
 ghost use Rattle.ansi_split.specs.Walks.{parts_of_walk, renditions_around, IsPartWalk};
 
+use crate::split::AnsiSplit;
 use crate::split::cursors::Cursor;
 use crate::split::rest::Rest;
 use crate::split::spans::{PartSpan, PartSpans};
@@ -115,6 +116,13 @@ pub fn walk_in<'a>(text: &'a str, pat: &'a str) -> PartWalk<'a>
     PartSpans::new(text, pat).walk()
 }
 
+/// Whether a walk has no part left. (Own.)
+pub fn is_over(walk: &PartWalk<'_>) -> bool
+    ensures { IsTrue result ↔ (parts_of_walk walk.now ≡ []) }
+{
+    walk.finished
+}
+
 /// The next part of a walk, if it ends in the stretch of the text that is known to have no ESC. After
 /// `None` the same parts are left. Doesn't allocate. (Own.)
 #[inline(always)]
@@ -148,6 +156,21 @@ pub fn first_stretch<'a>(walk: &PartWalk<'a>) -> Option<(PartStretch<'a>, PartWa
     let mut spans = PartSpans::of(walk);
     let stretch = spans.next()?.stretch()?;
     Some((stretch, spans.walk()))
+}
+
+/// The next part that a split returns, if it is written from one stretch of the text. `None` in `Some`
+/// means that it isn't, and it is passed. Doesn't allocate. (Own.)
+#[inline(always)]
+pub fn next_stretch_in<'a, A: Allocator + Copy>(
+    parts: &mut AnsiSplit<'a, A>,
+) -> Option<Option<PartStretch<'a>>>
+    ensures { MatchOption result (parts.old ≡ []) (λ stretch. IfSome stretch (λ s.
+        IsStretchFirst parts.old (renditions_around s.around) s.text.now parts.new)) }
+{
+    if let Some(text) = parts.spans.next_bare() {
+        return Some(Some(PartStretch { text, around: None }));
+    }
+    Some(parts.spans.next()?.stretch())
 }
 
 /// The next part of a walk, as [`split_in`] returns it. (Own.)

@@ -1,4 +1,4 @@
-use Rattle.std.proofs.Common.{◌≡◌, ◌∙◌, ◌≤◌, ◌+◌, ◌∷◌, [], ◌++◌, List, ℕ, length, take, drop, sym, ap, ap₂, arith, length-append}
+use Rattle.std.proofs.Common.{◌≡◌, ◌∙◌, ◌≤◌, ◌+◌, ◌∷◌, [], ◌++◌, length, take, drop, sym, ap, ap₂, arith, length-append}
 use Rattle.std.proofs.lemmas.List.{length_push}
 use Rattle.ansi_calls.specs.Lists.{ends_from}
 use Rattle.ansi_calls.proofs.CopyLemmas.{joined_one, ends_one}

@@ -1,16 +1,15 @@
 use Rattle.std.proofs.Common.{ℕ, ◌≡◌, ◌∙◌, ap, flat_map}
-use Rattle.ansi_split.specs.Walks.{parts_of_walk}
 use Rattle.ansi_str.specs.Parts.{all_parts}
 use Rattle.ansi_calls.specs.Lists.{ends_from}
-use Rattle.ansi_calls.proofs.CopyLemmas.{bytes_of, bytes-split_parts, front_copied, front_ends, same_written}
+use Rattle.ansi_calls.proofs.CopyLemmas.{bytes_of, front_copied, front_ends, same_written}
 use Rattle.ansi_calls.proofs.parts.write_few_parts.Goals as goal
 
 -- the copy has all parts
 pub returns-clause-written : goal.returns-clause-written
 returns-clause-written g c =
-    let texts = bytes_of (parts_of_walk c.walk_in.result) in
+    let texts = bytes_of c.split_in.result in
     let copied : ℕ × ℕ = (c.in_ok-count.count, c.in_ok-count.len) in
-    let all : texts ≡ all_parts c.args.text.now c.args.pat.now = ap bytes_of c.walk_in.ensures.parts ∙ bytes-split_parts c.args.text.now c.args.pat.now in
+    let all : texts ≡ all_parts c.args.text.now c.args.pat.now = c.split_in.ensures.bytes in
     let made = c.in_ok-count.ensures in
     let front = front_copied texts copied _ _ _ _ made.copied made.fit.1 ∙ ap (flat_map (λ t. t)) all in
     let ends = front_ends texts copied _ _ _ _ made.copied made.fit.0 ∙ ap (ends_from 0) all in
