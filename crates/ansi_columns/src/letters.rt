@@ -6,13 +6,86 @@ ghost use Rattle.ansi_columns.specs.Letters.{is_letter_byte, is_first_byte, AreL
 ghost use Rattle.ansi_columns.specs.Letters.{IsPlainSingle, ArePlainBefore, AreWideBefore};
 
 use crate::singles::single_columns;
+use crate::walks::Walk;
 use std::simd::prelude::*;
+
+/// The least number of bytes of a run, and of columns that are left, for which a stretch is looked for.
+const LEAST: usize = 16;
+
+impl Walk {
+    ghost use Rattle.std.specs.Prelude.{◌≤◌};
+    ghost use Rattle.ansi_columns.specs.declared.views.View.{View};
+    ghost use Rattle.ansi_columns.specs.Walks.{IsWalkIn, IsAnyWalk, IsPastClusters};
+    ghost use Rattle.ansi_columns.specs.Words.{ArePastLetters};
+
+    /// The walk after a stretch of letters, or of kana, ideographs and the like, that comes next in the run,
+    /// and their columns, at most `most`. Each of them is a cluster by itself. The last one isn't passed.
+    /// There may be none.
+    #[inline(always)]
+    pub(crate) fn past_stretch(self, text: &str, most: usize) -> (Walk, usize)
+        requires { IsAnyWalk text.now self }
+        ensures past { (view : View) → IsWalkIn view text.now self →
+            IsPastClusters view text.now self result.0 result.1 }
+        ensures most { result.1 ≤ most }
+    {
+        let run = &text[self.offset..self.run_end];
+        if most < LEAST || !begins_stretch(run.as_bytes()) {
+            return (self, 0);
+        }
+        let (len, columns) = stretch_before_last(run, most);
+        if len == 0 {
+            return (self, 0);
+        }
+        (self.on(len), columns)
+    }
+
+    /// The same for kana, ideographs and the like.
+    #[inline(always)]
+    pub(crate) fn past_wide(self, text: &str, most: usize) -> (Walk, usize)
+        requires { IsAnyWalk text.now self }
+        ensures past { (view : View) → IsWalkIn view text.now self →
+            ArePastLetters view text.now self result.0 result.1 }
+        ensures most { result.1 ≤ most }
+    {
+        let run = &text[self.offset..self.run_end];
+        if !begins_wide(run.as_bytes()) {
+            return (self, 0);
+        }
+        let (len, columns) = wide_before_last(run, most);
+        if len == 0 {
+            return (self, 0);
+        }
+        (self.on(len), columns)
+    }
+}
+
+/// Whether a run seems to begin with a stretch of which it pays to look at all.
+#[inline(always)]
+fn begins_stretch(run: &[u8]) -> bool {
+    LEAST <= run.len() && (begins_letters(run) || begins_wide(run))
+}
+
+/// Whether a run begins with two letters.
+#[inline(always)]
+fn begins_letters(run: &[u8]) -> bool {
+    matches!(
+        run,
+        [0x20..=0x7E, 0xC3..=0xCB | 0xCE..=0xD1, ..]
+            | [0xC3..=0xCB | 0xCE..=0xD1, _, 0x20..=0x7E | 0xC3..=0xCB | 0xCE..=0xD1, ..]
+    )
+}
+
+/// Whether a run seems to begin with eight ideographs or the like.
+#[inline(always)]
+fn begins_wide(run: &[u8]) -> bool {
+    24 <= run.len() && matches!(run[0], 0xE3..=0xE9) && matches!(run[21], 0xE3..=0xE9)
+}
 
 /// How many bytes of letters, or of kana, ideographs and the like, a text begins with, without the last
 /// character, and how many columns those have, at most `most`. (Not inlined, so that loops over other
 /// characters keep their registers.)
 #[inline(never)]
-pub(crate) fn stretch_before_last(text: &str, most: usize) -> (usize, usize)
+fn stretch_before_last(text: &str, most: usize) -> (usize, usize)
     ensures stretch { 0 < result.0 →
         ArePlainBefore text.now (take result.0 text.now) result.1 }
     ensures within { result.0 ≤ length text.now }
@@ -43,7 +116,7 @@ fn letters_before_last(text: &str, most: usize) -> (usize, usize)
 /// How many bytes of kana, ideographs and the like a text begins with, without the last character, and how
 /// many columns those have, at most `most`.
 #[inline(never)]
-pub(crate) fn wide_before_last(text: &str, most: usize) -> (usize, usize)
+fn wide_before_last(text: &str, most: usize) -> (usize, usize)
     ensures wide { 0 < result.0 → AreWideBefore text.now (take result.0 text.now) result.1 }
     ensures within { result.0 ≤ length text.now }
     ensures most { result.1 ≤ most }

@@ -156,7 +156,7 @@ pub(crate) fn plain_cell(text: &str, width: usize) -> Option<PlainFront>
 pub(crate) fn ascii_runs(text: &str, width: usize) -> Option<PlainFront>
     ensures { IfSome result (IsFront text.now width) }
 {
-    if !is_short_ascii(text) {
+    if begins_otherwise(text) || !is_short_ascii(text) {
         return None;
     }
     plain_runs(text, width)

@@ -16,7 +16,6 @@ ghost use Rattle.ansi_columns.specs.Walks.{IsPastFirst, IsPastLast, IsNextRun, E
 
 use crate::break_state::BreakState;
 use crate::from_end;
-use crate::letters::{stretch_before_last, wide_before_last};
 use crate::singles::{is_single, single_columns};
 use crate::views::View;
 use ansi_items::ansitok::{Item, Kind, Scanner};
@@ -236,11 +235,9 @@ impl Walk {
             [0x20..=0x7E | 0xC2..=0xEF, ..] => {}
             _ => return (self, 0),
         }
-        if 16 <= run.len() && (begins_letters(run) || begins_wide(run)) {
-            let (later, columns) = self.past_stretch(text, most);
-            if columns > 0 {
-                return (later, columns);
-            }
+        let (later, columns) = self.past_stretch(text, most);
+        if columns > 0 {
+            return (later, columns);
         }
         self.past_letters(text, most, true)
     }
@@ -271,32 +268,14 @@ impl Walk {
             ArePastLetters view text.now self result.0 result.1 }
         ensures most { result.1 ≤ most }
     {
-        if begins_wide(&text.as_bytes()[self.offset..self.run_end]) {
-            let (later, columns) = self.past_wide(text, most);
-            if columns > 0 {
-                return (later, columns);
-            }
+        let (later, columns) = self.past_wide(text, most);
+        if columns > 0 {
+            return (later, columns);
         }
         self.past_letters(text, most, false)
     }
 
-    /// The walk after kana, ideographs and the like that come next in the run, and their columns, at most
-    /// `most`. Each of them is a cluster by itself. The last one isn't passed.
-    #[inline(always)]
-    fn past_wide(self, text: &str, most: usize) -> (Walk, usize)
-        requires { IsAnyWalk text.now self }
-        ensures past { (view : View) → IsWalkIn view text.now self →
-            ArePastLetters view text.now self result.0 result.1 }
-        ensures most { result.1 ≤ most }
-    {
-        let (len, columns) = wide_before_last(&text[self.offset..self.run_end], most);
-        if len == 0 {
-            return (self, 0);
-        }
-        (self.on(len), columns)
-    }
-
-    /// The same for the printable ASCII that comes next in the run.
+    /// The same as `past_singles` if printable ASCII comes next in the run.
     #[inline(always)]
     fn past_ascii_clusters(self, text: &str, most: usize, view: View) -> (Walk, usize)
         requires { IsWalkIn view text.now self }
@@ -400,25 +379,9 @@ impl Walk {
         (walk, columns)
     }
 
-    /// The walk after letters, or kana, ideographs and the like, that come next in the run, and their columns,
-    /// at most `most`. Each of them is a cluster by itself. The last one isn't passed.
-    #[inline(always)]
-    fn past_stretch(self, text: &str, most: usize) -> (Walk, usize)
-        requires { IsAnyWalk text.now self }
-        ensures past { (view : View) → IsWalkIn view text.now self →
-            IsPastClusters view text.now self result.0 result.1 }
-        ensures most { result.1 ≤ most }
-    {
-        let (len, columns) = stretch_before_last(&text[self.offset..self.run_end], most);
-        if len == 0 {
-            return (self, 0);
-        }
-        (self.on(len), columns)
-    }
-
     /// The walk some bytes on in the run, in the state after printable ASCII.
     #[inline(always)]
-    fn on(self, len: usize) -> Walk
+    pub(crate) fn on(self, len: usize) -> Walk
         requires position { self.position + len < 2 ^ 64 }
         requires offset { self.offset + len < 2 ^ 64 }
         ensures { result ≡ walk_on self len }
@@ -714,22 +677,6 @@ impl Walk {
             break_state,
         }
     }
-}
-
-/// Whether a run begins with two letters.
-#[inline(always)]
-fn begins_letters(run: &[u8]) -> bool {
-    matches!(
-        run,
-        [0x20..=0x7E, 0xC3..=0xCB | 0xCE..=0xD1, ..]
-            | [0xC3..=0xCB | 0xCE..=0xD1, _, 0x20..=0x7E | 0xC3..=0xCB | 0xCE..=0xD1, ..]
-    )
-}
-
-/// Whether a run seems to begin with eight ideographs or the like, so that a stretch of them pays.
-#[inline(always)]
-fn begins_wide(run: &[u8]) -> bool {
-    24 <= run.len() && matches!(run[0], 0xE3..=0xE9) && matches!(run[21], 0xE3..=0xE9)
 }
 
 /// Whether more bytes follow a first character that may be single. It saves decoding it if not.

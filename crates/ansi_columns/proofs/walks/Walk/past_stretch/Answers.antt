@@ -11,7 +11,7 @@ on-requires-clause-position c =
     let stretch = c.stretch_before_last-len.ensures in
     let len = c.stretch_before_last-len.result.0 in
     let some : 0 < len = search rules in
-    let past = past-stretch len (break_state_of []) c.utf8.text c.requires.1 (sym c.range.ensures.value) (stretch.stretch some) some stretch.within refl in
+    let past = past-stretch len (break_state_of []) c.utf8.text c.requires.1 (sym c.range-run.ensures.value) (stretch.stretch some) some stretch.within refl in
     let size : length t < 2 ^ 63 = search rules in
     omega (arith, size, past.walk.within, length-plain t)
 
@@ -20,4 +20,4 @@ returns-clause-past c view walk =
     let stretch = c.stretch_before_last-len.ensures in
     let len = c.stretch_before_last-len.result.0 in
     let some : 0 < len = search rules in
-    subst (λ v. IsPastClusters view c.args.text.now c.args.self v c.stretch_before_last-len.result.1) (sym c.on.ensures) (past-stretch len (break_state_of []) c.utf8.text walk (sym c.range.ensures.value) (stretch.stretch some) some stretch.within refl)
+    subst (λ v. IsPastClusters view c.args.text.now c.args.self v c.stretch_before_last-len.result.1) (sym c.on.ensures) (past-stretch len (break_state_of []) c.utf8.text walk (sym c.range-run.ensures.value) (stretch.stretch some) some stretch.within refl)

@@ -11,7 +11,7 @@ on-requires-clause-position c =
     let wide = c.wide_before_last-len.ensures in
     let len = c.wide_before_last-len.result.0 in
     let some : 0 < len = search rules in
-    let past = past-stretch len (break_state_of []) c.utf8.text c.requires.1 (sym c.range.ensures.value) (wide-stretch (wide.wide some)) some wide.within refl in
+    let past = past-stretch len (break_state_of []) c.utf8.text c.requires.1 (sym c.range-run.ensures.value) (wide-stretch (wide.wide some)) some wide.within refl in
     let size : length t < 2 ^ 63 = search rules in
     omega (arith, size, past.walk.within, length-plain t)
 
@@ -20,4 +20,4 @@ returns-clause-past c view walk =
     let wide = c.wide_before_last-len.ensures in
     let len = c.wide_before_last-len.result.0 in
     let some : 0 < len = search rules in
-    subst (λ v. ArePastLetters view c.args.text.now c.args.self v c.wide_before_last-len.result.1) (sym c.on.ensures) (past-words len (break_state_of []) c.utf8.text walk (sym c.range.ensures.value) (wide.wide some) some wide.within refl)
+    subst (λ v. ArePastLetters view c.args.text.now c.args.self v c.wide_before_last-len.result.1) (sym c.on.ensures) (past-words len (break_state_of []) c.utf8.text walk (sym c.range-run.ensures.value) (wide.wide some) some wide.within refl)
