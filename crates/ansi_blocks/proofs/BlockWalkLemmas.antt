@@ -1,6 +1,5 @@
 -- How far the walk to the first run of a text has come, and what a step of it is.
-use Rattle.std.specs.Prelude.{IfSome}
-use Rattle.std.specs.Bool.{then_some}
+use Rattle.std.specs.Prelude.{IfSome, Option, Some, None}
 use Rattle.std.proofs.Common.{◌-◌, take, drop, slice_range, take-add, drop-drop}
 use Rattle.ansi_blocks.proofs.Common.{◌≡◌, ◌≢◌, ℕ, Bool, true, false, ◌+◌, ◌≤◌, nat_tests, ◌==◌, List, [], ◌∷◌, ◌++◌, arith, length, length-append, refl, sym, ◌∙◌, ap, ap₂, subst, if◌then◌else◌, append_assoc, append-nil, ne_eqb, Piece, Text, Sequence, spelling, pieces_of, Rendition, plain_style, apply, copied, sequences_before, block_after, blocks_from, is_mark, BeginsWithMark}
 use Rattle.ansi_items.specs.declared.ansitok.Kind.{Kind}
@@ -88,25 +87,27 @@ run-other {from} {s} {t} {len} {start} {at} {end} {kind} {w} {pieces} {ps} i j s
       together = whole;
     }
 
--- at the run; these are the bytes before it from `start` on
-pub run-text : {from s : Rendition} {t : List ℕ} {len start at i : ℕ} {w : List ℕ} {pieces : List Piece} (after before : List ℕ) → IsRunSoFar from t s len start at pieces → pieces ≡ Text w ∷ pieces_of after
-    → i ≡ at → before ≡ slice_range t start i → start + length before ≡ i
-    → (blocks_from from t ≡ block_after (sequences_before t 0) w s ∷ blocks_from s after) × (len ≡ length (sequences_before t 0)) × (length before ≡ len → before ≡ sequences_before t 0)
-run-text {from} {s} {t} {len} {start} {at} {i} {w} {pieces} after before so_far is begin bytes reach =
+-- what follows from three facts follows if there is a result
+pub if_three : {X : Type 0} {P Q R S : X → Type 0} (o : Option X) → IfSome o P → IfSome o Q → IfSome o R → ((x : X) → P x → Q x → R x → S x) → IfSome o S
+if_three None p q r gives = tt
+if_three (Some x) p q r gives = gives x p q r
+
+-- at the run
+pub run-text : {from s : Rendition} {t : List ℕ} {len start at : ℕ} {w : List ℕ} {pieces : List Piece} (after : List ℕ) → IsRunSoFar from t s len start at pieces → pieces ≡ Text w ∷ pieces_of after
+    → (blocks_from from t ≡ block_after (sequences_before t 0) w s ∷ blocks_from s after) × (len ≡ length (sequences_before t 0))
+run-text {from} {s} {t} {len} {start} {at} {w} {pieces} after so_far is =
     let first = subst (IsRunSoFar from t s len start at) is so_far in
     let held : sequences_before t 0 ≡ first.held = first.front ∙ append-nil first.held in
-    let whole : length before ≡ len → before ≡ sequences_before t 0 =
-    λ same. (let all : start + len ≡ at = omega (arith, same, begin, reach) in
-    bytes ∙ ap (λ n. slice_range t start n) begin ∙ sym (held ∙ first.together all)) in
-    (first.blocks ∙ ap₂ (λ u bs. block_after u w s ∷ bs) (sym held) (sym (blocks_from-walked s after)), first.sized ∙ ap length (sym held), whole)
+    (first.blocks ∙ ap₂ (λ u bs. block_after u w s ∷ bs) (sym held) (sym (blocks_from-walked s after)), first.sized ∙ ap length (sym held))
 
--- a text is returned only if it has this length
-pub some_if_as_long : {X : Type 0} (n k : ℕ) (v : X) (P : X → Type 0) → (n ≡ k → P v) → IfSome (then_some (n == k) v) P
-some_if_as_long n k v P so = by_test (n == k) refl
-  where
-    by_test : (b : Bool) → (n == k) ≡ b → IfSome (then_some b v) P
-    by_test true is = so (grind (arith, nat_tests))
-    by_test false is = tt
+-- what waits is the bytes before it from `start` on, if they are as many
+pub run-together : {from s : Rendition} {t : List ℕ} {len start at i : ℕ} {w : List ℕ} {pieces : List Piece} (after before : List ℕ) → IsRunSoFar from t s len start at pieces → pieces ≡ Text w ∷ pieces_of after
+    → i ≡ at → before ≡ slice_range t start i → start + length before ≡ i → length before ≡ len → before ≡ sequences_before t 0
+run-together {from} {s} {t} {len} {start} {at} {i} {w} {pieces} after before so_far is begin bytes reach same =
+    let first = subst (IsRunSoFar from t s len start at) is so_far in
+    let held : sequences_before t 0 ≡ first.held = first.front ∙ append-nil first.held in
+    let all : start + len ≡ at = omega (arith, same, begin, reach) in
+    bytes ∙ ap (λ n. slice_range t start n) begin ∙ sym (held ∙ first.together all)
 
 -- a block that is allocated is no borrow
 pub not_borrowed : (n k : ℕ) → n ≡ k → (n ≡ 0 → false ≡ true) → (k == 0) ≡ false

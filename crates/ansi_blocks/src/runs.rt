@@ -1,6 +1,8 @@
 //! The first run of a text, and what waits for it. They have a module of their own, so that
 //! `ansi_str::blocks` doesn't pass them on.
-ghost use Rattle.std.specs.Prelude.{◌≡◌, ◌∷◌, [], IfNone, IfSome, IfOk, length, string_bytes};
+ghost use Rattle.std.specs.Prelude.{◌≡◌, ◌≤◌, ◌+◌, ◌∷◌, [], IfNone, IfSome, IfOk, length, string_bytes};
+ghost use Rattle.std.specs.Prelude.{slice_range};
+ghost use Rattle.std.specs.Str.{IsCharBoundary};
 ghost use Rattle.ansi_style.specs.States.{rendition_of};
 ghost use Rattle.ansi_blocks.specs.Blocks.{sequences_before, block_after, blocks_from};
 
@@ -15,7 +17,8 @@ pub struct Run<'a> {
     pub text: &'a str,
     /// How many bytes the sequences that wait for it have.
     pub len_before: usize,
-    /// These sequences, joined, if they are a stretch of the text: no SGR follows one of them.
+    /// These sequences, joined, if there are any and they are a stretch of the text: no SGR follows
+    /// one of them.
     pub together: Option<&'a str>,
     /// The text after it.
     pub rest: &'a str,
@@ -41,11 +44,10 @@ pub fn first_styled_run<'a>(text: &'a str, style: &mut Style) -> Option<Run<'a>>
         let piece = &text[item.start..item.end];
         match item.kind {
             Kind::Text => {
-                let before = &text[start..item.start];
                 return Some(Run {
                     text: piece,
                     len_before,
-                    together: (before.len() == len_before).then_some(before),
+                    together: stretch_of(text, start, item.start, len_before),
                     rest: &text[item.end..],
                 });
             }
@@ -57,6 +59,26 @@ pub fn first_styled_run<'a>(text: &'a str, style: &mut Style) -> Option<Run<'a>>
         }
     }
     None
+}
+
+/// What is between two offsets of a text, if that has `len` bytes and isn't empty.
+#[inline(always)]
+fn stretch_of(text: &str, start: usize, end: usize, len: usize) -> Option<&str>
+    requires order { start ≤ end }
+    requires start { IsCharBoundary text.now start }
+    requires end { IsCharBoundary text.now end }
+    ensures stretch { IfSome result (λ s. s.now ≡ slice_range text.now start end) }
+    ensures end { IfSome result (λ s. start + length s.now ≡ end) }
+    ensures len { IfSome result (λ s. length s.now ≡ len) }
+{
+    if len == 0 {
+        return None;
+    }
+    let stretch = &text[start..end];
+    if stretch.len() != len {
+        return None;
+    }
+    Some(stretch)
 }
 
 /// The sequences before the first run of a text that aren't SGRs, joined. Reserves `room` bytes at

@@ -1,9 +1,12 @@
 -- The bits of a set of attributes after some are set or cleared, and whether it has one of some attributes.
-use Rattle.ansi_style.proofs.Common.{◌≡◌, ◌∙◌, ℕ, zero, suc, ◌-◌, ◌^◌, ◌<◌, Bool, true, false, not, ◌&&◌, ◌||◌, ◌==◌, if◌then◌else◌, inl, inr, refl, ap, arith, min, bit_and, bit_or, w32, nat_lt, Decides, bit_at, not-not, zero-mul, one-mul, eq-eqb, ne_eqb, ltb-true, cases_lt, same_from_decides, Decides-eqb, Decides-like, Decides-below_and, pow_pos, and_pow, bit_at_or, bit_at_and, bit_at-lt, bit_at_not, bit_at_above, bit_at-zero, same_from_bits, has, has_one}
+use Rattle.ansi_style.proofs.Common.{◌≡◌, ◌∙◌, ℕ, zero, suc, ◌-◌, ◌^◌, ◌<◌, Bool, true, false, not, ◌&&◌, ◌||◌, ◌==◌, if◌then◌else◌, inl, inr, refl, ap, sym, arith, min, bit_and, bit_or, w32, nat_lt, Decides, bit_at, not-not, zero-mul, one-mul, eq-eqb, ne_eqb, ltb-true, cases_lt, same_from_decides, Decides-eqb, Decides-like, Decides-below_and, pow_pos, and_pow, bit_at_or, bit_at_and, bit_at-lt, bit_at_not, bit_at_above, bit_at-zero, same_from_bits, has, has_one}
 use Rattle.std.proofs.lemmas.Nat.{and_le_r}
 
 has-bit : (n k : ℕ) → has n k ≡ (bit_at n k == 1)
 has-bit n k = grind (arith, and_pow, bit_at-lt, eq-eqb, ne_eqb, one-mul, pow_pos, zero-mul)
+
+pub has-same_bit : (n m k : ℕ) → bit_at n k ≡ bit_at m k → has n k ≡ has m k
+has-same_bit n m k same = has-bit n k ∙ ap (λ b. b == 1) same ∙ sym (has-bit m k)
 
 -- so sets that both have it, or both don't, have the same bit there
 pub same_bit : (n m k : ℕ) → has n k ≡ has m k → bit_at n k ≡ bit_at m k

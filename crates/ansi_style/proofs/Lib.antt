@@ -1,5 +1,6 @@
 mod Common
 pub mod BitsLemmas
+pub mod WordLemmas
 pub mod CodeLemmas
 pub mod FieldLemmas
 pub mod StateLemmas

@@ -1,7 +1,7 @@
 -- Styles as numbers.
 use Rattle.ansi_style.proofs.Common.{◌≡◌, ◌∙◌, ◌<◌, ◌∷◌, [], ap, sym, inl, inr, arith, ℕ, Bool, false, List, get_or, bit_and, and_assoc, cases_lt, same_from_bits, bit_at_above, Rendition, Style, has, rendition_of}
 use Rattle.ansi_style.proofs.BitsLemmas.{same_bit}
-use Rattle.ansi_style.specs.Numbers.{color_of_numbers, numbers_of_color, font_of_numbers, numbers_of_font}
+use Rattle.ansi_style.specs.Numbers.{color_of_numbers, numbers_of_color, font_of_numbers, font_of_word, numbers_of_font}
 use Rattle.ansi_style.specs.States.{rendition_of_numbers, AreExact, HaveSameBytes}
 use Rattle.ansi_style.specs.declared.numbers.StyleNumbers.{StyleNumbers}
 use Rattle.std.proofs.lemmas.List.FromFn.{get_or-map-range_with_len}
@@ -13,7 +13,7 @@ pub same_rendition :
     → color_of_numbers n.foreground ≡ color_of_numbers s.foreground
     → color_of_numbers n.background ≡ color_of_numbers s.background
     → color_of_numbers n.underline_color ≡ color_of_numbers s.underline_color
-    → font_of_numbers n.font ≡ font_of_numbers s.font
+    → font_of_numbers n.font ≡ font_of_word s.attributes.0
     → rendition_of_numbers n ≡ rendition_of s
 unfolding rendition_of
 same_rendition n s attributes foreground background underline_color font =

@@ -1,6 +1,6 @@
 -- Sequences make styles of styles: each color and font that they select is in its range.
 use Rattle.ansi_style.proofs.Common.{◌≡◌, ◌∙◌, sym, ap, inl, inr, Bool, if◌then◌else◌, cases_Bool, ℕ, zero, suc, true, List, [], ◌∷◌, length, Option, Some, None, refl, IsTrue, IfSome, nat_lt, arith, map, rules, and_from, or_left, or_right, option_map_or, ForSome, is_in_range, AnsiColor, Style, rendition_of, sgr_parameters, Mark, marks, marks_up_to, Rendition, is_foreground, is_background, is_extended_color, IsStyle, plain_style, Effect, Changes, ReadsColor, effect_of, color_number, color_by_parts, color_by_number, read_color, perform, steps, step, apply, apply_parameters, fields_of, apply_all, style_at, style_after, style_after_from}
-use Rattle.ansi_style.specs.Numbers.{color_of_numbers, font_of_numbers}
+use Rattle.ansi_style.specs.Numbers.{color_of_numbers, font_of_word}
 use Rattle.ansi_style.specs.Sets.{unless_same}
 use Rattle.std.specs.Option.{option_or}
 use Rattle.ansi_style.proofs.SgrLemmas.{effect_holds}
@@ -97,7 +97,7 @@ IsStyle-rendition_of s = record {
   foreground = if_some (color_of_numbers s.foreground) s.foreground_in_range;
   background = if_some (color_of_numbers s.background) s.background_in_range;
   underline_color = if_some (color_of_numbers s.underline_color) s.underline_color_in_range;
-  font = if_some (font_of_numbers s.font) s.font_in_range;
+  font = if_some (font_of_word s.attributes.0) s.font_in_range;
 }
   where
     if_some : {X : Type 0} {P : X → Type 0} (o : Option X) → ForSome o P → IfSome o P

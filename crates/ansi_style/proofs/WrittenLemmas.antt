@@ -1,6 +1,6 @@
 -- What the code writes for a start and a close, row by row, as the definitions have it.
 use Rattle.ansi_style.proofs.Common.{◌≡◌, ℕ, Bool, true, false, List, [], ◌∷◌, ◌++◌, ◌&&◌, ◌||◌, ◌==◌, ◌+◌, ◌^◌, not, is_some, codes, refl, sym, ◌∙◌, ap, ap₂, append_assoc, append-nil, bit_and, nat_lt, if◌then◌else◌, or-false, flat_map-append, and_assoc, flat_map, Style, Attributes, INTENSITY, LETTERS, SHAPES, FRAMES, ENDS, IDEOGRAM, START_INTENSITY, START_LETTERS, START_SHAPES, START_FRAMES, CLOSE_LETTERS, CLOSE_FRAMES, CLOSE_ENDS, has, has_one, rendition_of, written, written_all, code_if, color_codes, font_codes, start_codes, close_codes, start, close}
-use Rattle.ansi_style.specs.Numbers.{color_of_numbers, font_of_numbers}
+use Rattle.ansi_style.specs.Numbers.{color_of_numbers, font_of_word}
 use Rattle.ansi_style.proofs.BitsLemmas.{has_one-places, has_one_in_last}
 
 -- Whether a set has one of some attributes.
@@ -92,7 +92,7 @@ written_rows set group rows text = flat_map (λ row. if has_one (bit_and set.0 g
 pub start_by_rows : (s : Style) →
     written_rows s.attributes INTENSITY START_INTENSITY.now (λ w. w.now)
     ++ (written_rows s.attributes LETTERS START_LETTERS.now (λ w. w.now)
-    ++ (written_all (font_codes (font_of_numbers s.font))
+    ++ (written_all (font_codes (font_of_word s.attributes.0))
     ++ (written_rows s.attributes SHAPES START_SHAPES.now (λ w. w.now)
     ++ (written_all (color_codes (codes "38") (color_of_numbers s.foreground) ++ color_codes (codes "48") (color_of_numbers s.background) ++ color_codes (codes "58") (color_of_numbers s.underline_color))
     ++ written_rows s.attributes FRAMES START_FRAMES.now (λ w. w.now)))))
@@ -112,7 +112,7 @@ start_by_rows s =
     before Writes-row (codes "7") (has_one-at_place n LETTERS.0 7 refl refl refl)
     before Writes-row (codes "8") (has_one-at_place n LETTERS.0 8 refl refl refl)
     before Writes-row (codes "9") (has_one-at_place n LETTERS.0 9 refl refl refl)
-    before Writes-codes (font_codes (font_of_numbers s.font))
+    before Writes-codes (font_codes (font_of_word s.attributes.0))
     before Writes-group
     before Writes-row (codes "20") (has_one-at_place n SHAPES.0 12 refl refl refl)
     before Writes-row (codes "21") (has_one-at_place n SHAPES.0 4 refl refl refl)
@@ -134,7 +134,7 @@ start_by_rows s =
 
 pub close_by_rows : (s : Style) →
     written_if (has s.attributes.0 23 && has s.attributes.0 22) (codes "\u{1b}[0m")
-    ++ (written_if (is_some (font_of_numbers s.font)) (codes "\u{1b}[10m")
+    ++ (written_if (is_some (font_of_word s.attributes.0)) (codes "\u{1b}[10m")
     ++ (written_if (has_one s.attributes.0 INTENSITY.0) (codes "\u{1b}[22m")
     ++ (written_rows s.attributes LETTERS CLOSE_LETTERS.now (λ w. w.now)
     ++ (written_if (is_some (color_of_numbers s.foreground)) (codes "\u{1b}[39m")

@@ -1,5 +1,5 @@
 -- Colors and fonts as numbers.
-use Rattle.std.specs.Prelude.{ℕ, false, true, ◌==◌, Option, None, Some, if◌then◌else◌}
+use Rattle.std.specs.Prelude.{ℕ, false, true, ◌==◌, ◌/◌, ◌%◌, ◌^◌, Option, None, Some, if◌then◌else◌}
 use Rattle.ansi_items.specs.declared.ansitok.AnsiColor.{AnsiColor}
 use Rattle.ansi_items.specs.declared.ansitok.AnsiColor.TheVariants.{Bit4, Bit8, Bit24}
 use Rattle.ansi_style.specs.declared.numbers.ColorNumbers.{ColorNumbers}
@@ -23,6 +23,10 @@ numbers_of_color (Some (Bit24 r g b)) = record { kind = 3; first = r; second = g
 -- the font that the numbers encode (own)
 abbrev pub font_of_numbers : FontNumbers → Option ℕ
 font_of_numbers n = if n.is_set then Some n.number else None
+
+-- the font whose code is in the upper 8 bits of a word of 32, or none if they are 0 (own)
+abbrev pub font_of_word : ℕ → Option ℕ
+font_of_word word = let code = word / 2 ^ 24 % 2 ^ 8 in if code == 0 then None else Some code
 
 -- the numbers that encode a font; 0 if there is none (own)
 abbrev pub numbers_of_font : Option ℕ → FontNumbers

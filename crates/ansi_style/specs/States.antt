@@ -1,8 +1,8 @@
 -- A style of the code as a rendition.
-use Rattle.std.specs.Prelude.{◌≡◌, ◌<◌, ℕ, Bool, not, ◌==◌, ◌^◌}
+use Rattle.std.specs.Prelude.{◌≡◌, ◌<◌, ℕ, Option, Bool, not, ◌==◌, ◌^◌}
 use Rattle.std.specs.Int.RustNames.{bit_and}
 use Rattle.ansi_style.specs.Rendition.{Rendition, plain_style}
-use Rattle.ansi_style.specs.Numbers.{color_of_numbers, numbers_of_color, font_of_numbers, numbers_of_font}
+use Rattle.ansi_style.specs.Numbers.{color_of_numbers, numbers_of_color, font_of_numbers, font_of_word, numbers_of_font}
 use Rattle.ansi_style.specs.declared.state.Style.{Style}
 use Rattle.ansi_style.specs.declared.numbers.StyleNumbers.{StyleNumbers}
 
@@ -43,13 +43,17 @@ with_attributes is_set s = record s {
   unknown = is_set 23;
 }
 
+-- the rendition with this font
+abbrev pub with_font : Option ℕ → Rendition → Rendition
+with_font font s = record s { font = font }
+
 -- the rendition of a style of the code
 unfoldable pub rendition_of : Style → Rendition
 rendition_of s = with_attributes (has s.attributes.0) (record plain_style {
   foreground = color_of_numbers s.foreground;
   background = color_of_numbers s.background;
   underline_color = color_of_numbers s.underline_color;
-  font = font_of_numbers s.font;
+  font = font_of_word s.attributes.0;
 })
 
 -- the rendition that the numbers encode, each attribute by its bit

@@ -1,5 +1,5 @@
-//! Colors, fonts and styles as numbers. A style keeps its colors and its font so, and memory that
-//! Rattle doesn't manage keeps a style so.
+//! Colors, fonts and styles as numbers. A style keeps its colors so, and memory that Rattle doesn't
+//! manage keeps a style so.
 ghost use Rattle.std.specs.Prelude.{◌≡◌, IsTrue, Some, is_some};
 ghost use Rattle.std.specs.Option.{ForSome, option_or};
 ghost use Rattle.std.specs.Int.{is_in_range};
@@ -134,39 +134,6 @@ impl FontNumbers {
     {
         if self.is_set { Some(self.number) } else { None }
     }
-
-    /// Whether there is a font.
-    #[inline(always)]
-    pub(crate) fn is_some(self) -> bool
-        ensures { result ≡ is_some (font_of_numbers self) }
-    {
-        self.is_set
-    }
-
-    /// This font, or the other if there is none.
-    #[inline(always)]
-    pub(crate) fn or(self, other: FontNumbers) -> FontNumbers
-        ensures { font_of_numbers result
-            ≡ option_or (font_of_numbers self) (font_of_numbers other) }
-    {
-        if self.is_some() { self } else { other }
-    }
-
-    /// The same font, with 0 in a byte that isn't used.
-    #[inline(always)]
-    fn exact(self) -> FontNumbers
-        ensures font { font_of_numbers result ≡ font_of_numbers self }
-        ensures exact { result ≡ numbers_of_font (font_of_numbers self) }
-    {
-        FontNumbers::of(self.font())
-    }
-}
-
-impl fmt::Debug for FontNumbers {
-    /// Prints the font.
-    fn fmt<W: fmt::Write>(&self, f: &mut fmt::Formatter<W>) -> fmt::Result {
-        self.font().fmt(f)
-    }
 }
 
 /// A style as numbers, for a caller that can't keep a `Style`. Contracts see it as a `Rendition`,
@@ -206,7 +173,7 @@ impl StyleNumbers {
             foreground: style.foreground.exact(),
             background: style.background.exact(),
             underline_color: style.underline_color.exact(),
-            font: style.font.exact(),
+            font: FontNumbers::of(style.attributes.font()),
         }
     }
 
@@ -217,11 +184,10 @@ impl StyleNumbers {
         ensures { rendition_of result ≡ rendition_of_numbers self.now }
     {
         Style {
-            attributes: Attributes::from_bits_retain(self.attributes),
+            attributes: Attributes::from_bits_retain(self.attributes).with_font(self.font.font()),
             foreground: self.foreground,
             background: self.background,
             underline_color: self.underline_color,
-            font: self.font,
         }
     }
 }

@@ -11,14 +11,16 @@ ghost use Rattle.std.specs.Prelude.{IsTrue};
 ghost use Rattle.std.specs.Option.{ForSome};
 ghost use Rattle.std.specs.Int.{is_in_range};
 ghost use Rattle.ansi_style.specs.Rendition.{is_foreground, is_background, is_extended_color};
-ghost use Rattle.ansi_style.specs.Numbers.{color_of_numbers, font_of_numbers};
+ghost use Rattle.ansi_style.specs.Numbers.{color_of_numbers, font_of_word};
 
-use crate::numbers::{ColorNumbers, FontNumbers};
+use crate::numbers::ColorNumbers;
 use crate::state::attributes::Attributes;
 use crate::state::fields::{Field, Fields};
 pub use crate::state::rendition::Rendition;
 pub use crate::state::written::{AnsiSequenceEnd, AnsiSequenceStart};
 use bitflags::Flags;
+use std::fmt;
+use std::mem::size_of;
 
 /// A style: what the SGRs before a character of a text have selected (ECMA-48, section 8.3.117).
 ///
@@ -33,30 +35,32 @@ use bitflags::Flags;
 /// Its colors and its font are always ones that SGR codes can select, as the ghost fields say.
 /// Contracts see it as a `Rendition`, by `rendition_of`.
 ///
-/// It is laid out as `StyleNumbers`.
+/// It has 16 bytes, which are copied at once.
 #[repr(C)]
-#[derive(Debug, Clone, Copy)]
+#[derive(Clone, Copy)]
 pub struct Style {
     pub(crate) attributes: Attributes,
     pub(crate) foreground: ColorNumbers,
     pub(crate) background: ColorNumbers,
     pub(crate) underline_color: ColorNumbers,
-    pub(crate) font: FontNumbers,
     ghost foreground_in_range: { ForSome (color_of_numbers foreground) (λ c.
         IsTrue (is_foreground c)) },
     ghost background_in_range: { ForSome (color_of_numbers background) (λ c.
         IsTrue (is_background c)) },
     ghost underline_color_in_range: { ForSome (color_of_numbers underline_color) (λ c.
         IsTrue (is_extended_color c)) },
-    ghost font_in_range: { ForSome (font_of_numbers font) (λ n. IsTrue (is_in_range 11 19 n)) },
+    ghost font_in_range: { ForSome (font_of_word attributes.0) (λ n.
+        IsTrue (is_in_range 11 19 n)) },
 }
 
+const _: () = prove!(size_of::<Style>() == 16);
+
 impl Style {
-    ghost use Rattle.std.specs.Prelude.{◌≡◌, ◌&&◌, ◌||◌, not};
+    ghost use Rattle.std.specs.Prelude.{◌≡◌, ◌&&◌, ◌||◌, ◌<◌, ◌^◌, not};
     ghost use Rattle.ansi_style.specs.Rendition.{has_known};
     ghost use Rattle.std.specs.Option.{option_map_or};
     ghost use Rattle.ansi_style.specs.Sgr.{effect_of_code, unknown_code, perform};
-    ghost use Rattle.ansi_style.specs.States.{has, rendition_of, with_attributes};
+    ghost use Rattle.ansi_style.specs.States.{has, rendition_of, with_attributes, with_font};
 
     /// Applies one field as an SGR code. A field that is no code counts as an unknown code. A code
     /// that reads a color takes its fields from `rest`.
@@ -75,6 +79,7 @@ impl Style {
     /// Sets attributes.
     #[tactic(auto, unfolding(crate::specs::States::rendition_of))]
     fn set(&mut self, attributes: Attributes)
+        requires { attributes.0 < 2 ^ 24 }
         ensures { rendition_of self.new
             ≡ with_attributes (λ place. has attributes.0 place || has self.old.attributes.0 place)
             (rendition_of self.old) }
@@ -85,11 +90,21 @@ impl Style {
     /// Clears attributes.
     #[tactic(auto, unfolding(crate::specs::States::rendition_of))]
     fn clear(&mut self, attributes: Attributes)
+        requires { attributes.0 < 2 ^ 24 }
         ensures { rendition_of self.new
             ≡ with_attributes (λ place. not (has attributes.0 place)
             && has self.old.attributes.0 place) (rendition_of self.old) }
     {
         self.attributes.remove(attributes);
+    }
+
+    /// Sets the font, or takes it away.
+    #[tactic(auto, unfolding(crate::specs::States::rendition_of))]
+    fn set_font(&mut self, font: Option<u8>)
+        requires { ForSome font (λ n. IsTrue (is_in_range 11 19 n)) }
+        ensures { rendition_of self.new ≡ with_font font (rendition_of self.old) }
+    {
+        self.attributes = self.attributes.with_font(font);
     }
 
     /// The rendition of the style.
@@ -114,7 +129,7 @@ impl Style {
             reset: self.attributes.contains(Attributes::RESET),
             framed: self.attributes.contains(Attributes::FRAMED),
             encircled: self.attributes.contains(Attributes::ENCIRCLED),
-            font: self.font.font(),
+            font: self.attributes.font(),
             fraktur: self.attributes.contains(Attributes::FRAKTUR),
             proportional_spacing: self.attributes.contains(Attributes::PROPORTIONAL_SPACING),
             overlined: self.attributes.contains(Attributes::OVERLINED),
@@ -144,7 +159,7 @@ impl Style {
         self.foreground.is_some()
             | self.background.is_some()
             | self.underline_color.is_some()
-            | self.font.is_some()
+            | self.attributes.has_font()
             | self.attributes.intersects(Attributes::KNOWN)
     }
 
@@ -176,5 +191,18 @@ impl Style {
         ensures { result ≡ rendition_of self.now }
     {
         AnsiSequenceEnd(self)
+    }
+}
+
+impl fmt::Debug for Style {
+    /// Prints each part.
+    fn fmt<W: fmt::Write>(&self, f: &mut fmt::Formatter<W>) -> fmt::Result {
+        f.debug_struct("Style")
+            .field("attributes", &self.attributes.intersection(Attributes::ALL))
+            .field("foreground", &self.foreground)
+            .field("background", &self.background)
+            .field("underline_color", &self.underline_color)
+            .field("font", &self.attributes.font())
+            .finish()
     }
 }

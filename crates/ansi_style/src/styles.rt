@@ -7,11 +7,11 @@ ghost use Rattle.ansi_items.specs.Sequences.{is_sgr};
 ghost use Rattle.ansi_style.specs.Rendition.{plain_style, has_known, has_any};
 ghost use Rattle.ansi_style.specs.Sgr.{apply, apply_parameters};
 ghost use Rattle.ansi_style.specs.Written.{start, close, close_if_any};
-ghost use Rattle.ansi_style.specs.Numbers.{color_of_numbers, font_of_numbers};
+ghost use Rattle.ansi_style.specs.Numbers.{color_of_numbers};
 ghost use Rattle.ansi_style.specs.States.{rendition_of};
 ghost use Rattle.ansi_style.specs.Sets.{union, difference, unless_same, is_same_color};
 
-use crate::numbers::{ColorNumbers, FontNumbers};
+use crate::numbers::ColorNumbers;
 use crate::state::attributes::Attributes;
 use crate::state::fields::{Fields, lone_code, parameters};
 use crate::state::sink::Sink;
@@ -31,7 +31,6 @@ pub fn plain_style() -> Style
         foreground: ColorNumbers::of(None),
         background: ColorNumbers::of(None),
         underline_color: ColorNumbers::of(None),
-        font: FontNumbers::of(None),
     }
 }
 
@@ -75,13 +74,12 @@ pub fn union(under: &Style, over: &Style) -> Style
     ensures { rendition_of result ≡ union (rendition_of under.now) (rendition_of over.now) }
 {
     let shown = over.attributes.intersection(Attributes::KNOWN);
-    let attributes = under.attributes.union(shown);
+    let font = over.attributes.font().or(under.attributes.font());
     Style {
-        attributes,
+        attributes: under.attributes.union(shown).with_font(font),
         foreground: over.foreground.or(under.foreground),
         background: over.background.or(under.background),
         underline_color: over.underline_color.or(under.underline_color),
-        font: over.font.or(under.font),
     }
 }
 
@@ -100,13 +98,12 @@ pub fn difference(style: &Style, other: &Style) -> Style
     ensures { rendition_of result ≡ difference (rendition_of style.now) (rendition_of other.now) }
 {
     let shown = other.attributes.intersection(Attributes::KNOWN);
-    let attributes = style.attributes.difference(shown);
+    let font = font_unless_same(style.attributes.font(), other.attributes.font());
     Style {
-        attributes,
+        attributes: style.attributes.difference(shown).with_font(font),
         foreground: color_unless_same(style.foreground, other.foreground),
         background: color_unless_same(style.background, other.background),
         underline_color: color_unless_same(style.underline_color, other.underline_color),
-        font: font_unless_same(style.font, other.font),
     }
 }
 
@@ -120,12 +117,10 @@ fn color_unless_same(color: ColorNumbers, other: ColorNumbers) -> ColorNumbers
 }
 
 /// The font, or none if the other is the same.
-fn font_unless_same(font: FontNumbers, other: FontNumbers) -> FontNumbers
-    ensures { font_of_numbers result
-        ≡ unless_same nat_eq (font_of_numbers font) (font_of_numbers other) }
+fn font_unless_same(font: Option<u8>, other: Option<u8>) -> Option<u8>
+    ensures { result ≡ unless_same nat_eq font other }
 {
-    let (font, other) = (font.font(), other.font());
-    FontNumbers::of(if font == other { None } else { font })
+    if font == other { None } else { font }
 }
 
 /// Whether the style has something to reset: a known attribute, a color or a font is set, or

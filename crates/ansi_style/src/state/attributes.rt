@@ -1,10 +1,13 @@
-//! The attributes of a style as a set of bits. Only the methods of `Flags` read and change the
-//! bits.
-ghost use Rattle.std.specs.Prelude.{⊤};
+//! The attributes and the font of a style in one word. Only the methods of `Flags`, `font` and
+//! `with_font` read and change its bits.
+ghost use Rattle.std.specs.Prelude.{⊤, ◌≡◌, ◌≢◌, ◌<◌, ℕ, Some, is_some};
+ghost use Rattle.ansi_style.specs.Numbers.{font_of_word};
+ghost use Rattle.ansi_style.specs.States.{has};
 
 use bitflags::{Flag, Flags};
 
-/// A set of attributes.
+/// A set of attributes, and a font: each attribute is one of the lower 24 bits, and the upper 8 are
+/// the code of the font, or 0 if none is set.
 #[derive(Debug, Clone, Copy)]
 pub(crate) struct Attributes(u32);
 
@@ -30,6 +33,38 @@ impl Flags for Attributes {
 }
 
 impl Attributes {
+    /// The font.
+    #[inline(always)]
+    pub(crate) fn font(self) -> Option<u8>
+        ensures { result ≡ font_of_word self.0 }
+    {
+        match (self.0 >> 24) as u8 {
+            0 => None,
+            code => Some(code),
+        }
+    }
+
+    /// Whether a font is set.
+    #[inline(always)]
+    pub(crate) fn has_font(self) -> bool
+        ensures { result ≡ is_some (font_of_word self.0) }
+    {
+        self.font().is_some()
+    }
+
+    /// These attributes with another font.
+    #[inline(always)]
+    pub(crate) fn with_font(self, font: Option<u8>) -> Attributes
+        requires { font ≢ Some 0 }
+        ensures font { font_of_word result.0 ≡ font }
+        ensures attributes { (place : ℕ) → place < 24 → has result.0 place ≡ has self.0 place }
+    {
+        Attributes(u32::from(font.unwrap_or(0)) << 24 | self.0 & Self::ALL.0)
+    }
+
+    /// All 24 attributes.
+    pub(crate) const ALL: Attributes = Attributes(0xff_ffff);
+
     pub(crate) const BOLD: Attributes = Attributes(0x1);
 
     pub(crate) const FAINT: Attributes = Attributes(0x2);

@@ -5,7 +5,7 @@ ghost use Rattle.ansi_style.specs.Sgr.{effect_of_code, perform, read_color, colo
 ghost use Rattle.ansi_style.specs.Sgr.{color_by_number};
 ghost use Rattle.ansi_style.specs.States.{rendition_of};
 
-use crate::numbers::{ColorNumbers, FontNumbers};
+use crate::numbers::ColorNumbers;
 use crate::state::Style;
 use crate::state::attributes::Attributes;
 use crate::state::fields::Fields;
@@ -34,8 +34,8 @@ impl Style {
             7 => self.set(Attributes::INVERSE),
             8 => self.set(Attributes::HIDE),
             9 => self.set(Attributes::CROSSED_OUT),
-            10 => self.font = FontNumbers::of(None),
-            11..=19 => self.font = FontNumbers::of(Some(code)),
+            10 => self.set_font(None),
+            11..=19 => self.set_font(Some(code)),
             20 => self.set(Attributes::FRAKTUR),
             21 => self.set(Attributes::DOUBLE_UNDERLINE),
             22 => self.clear(Attributes::INTENSITY),

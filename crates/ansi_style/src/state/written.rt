@@ -159,7 +159,7 @@ pub(crate) fn write_start<W: Sink>(out: &mut W, style: &Style) -> fmt::Result
         START_INTENSITY,
     )?;
     write_rows(out, set.intersection(Attributes::LETTERS), START_LETTERS)?;
-    write_font(out, style.font.font())?;
+    write_font(out, set.font())?;
     write_rows(out, set.intersection(Attributes::SHAPES), START_SHAPES)?;
     write_colors(out, style)?;
     write_rows(out, set.intersection(Attributes::FRAMES), START_FRAMES)
@@ -178,7 +178,7 @@ pub(crate) fn write_close<W: Sink>(out: &mut W, style: &Style) -> fmt::Result
         is_unknown & set.contains(Attributes::RESET),
         "\u{1b}[0m",
     )?;
-    write_when(out, style.font.is_some(), "\u{1b}[10m")?;
+    write_when(out, set.has_font(), "\u{1b}[10m")?;
     write_when(out, set.intersects(Attributes::INTENSITY), "\u{1b}[22m")?;
     write_rows(out, set.intersection(Attributes::LETTERS), CLOSE_LETTERS)?;
     write_when(out, style.foreground.is_some(), "\u{1b}[39m")?;

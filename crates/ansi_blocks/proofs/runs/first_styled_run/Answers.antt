@@ -1,6 +1,6 @@
 use Rattle.std.specs.Str.{IsCharBoundary}
 use Rattle.ansi_blocks.proofs.Common.{rules, ◌≡◌, ◌∷◌, length, sym, ◌∙◌, ap, subst, arith, Text, sequences_before, rendition_of, gives_text, gives_rest, gives_mark}
-use Rattle.ansi_blocks.proofs.BlockWalkLemmas.{run-begin, run-sgr, run-other, run-text, some_if_as_long}
+use Rattle.ansi_blocks.proofs.BlockWalkLemmas.{run-begin, run-sgr, run-other, run-text, run-together, if_three}
 use Rattle.ansi_blocks.proofs.runs.first_styled_run.Goals as goal
 
 pub loop-item-init : goal.loop-item-init
@@ -44,12 +44,14 @@ returns-in-Text c =
     let same = c.loop-item.invariant.text in
     let first = gives_text gives same c.range-piece.ensures.value c.in-Text.is in
     let so_far = c.loop-item.invariant.so_far in
-    let run = run-text c.range_from.result.now c.range-before.result.now so_far (first ∙ ap (λ ps. Text c.range-piece.result.now ∷ ps) (sym (gives_rest gives same c.range_from.ensures.value))) gives.start c.range-before.ensures.value (omega (arith, gives.start, so_far.within, c.range-before.ensures.len)) in
+    let pieces = first ∙ ap (λ ps. Text c.range-piece.result.now ∷ ps) (sym (gives_rest gives same c.range_from.ensures.value)) in
+    let run = run-text c.range_from.result.now so_far pieces in
     record {
       none = tt;
       first = run.0;
       awaited = run.1;
-      together = rw c.then_some.ensures (some_if_as_long (length c.range-before.result.now) c.loop-item.len_before c.range-before.result (λ s. s.now ≡ sequences_before c.args.text.now 0) run.2);
+      together = if_three c.stretch_of.result c.stretch_of.ensures.stretch c.stretch_of.ensures.end c.stretch_of.ensures.len
+          (λ before is reach same. run-together c.range_from.result.now before.now so_far pieces gives.start is reach same);
     }
 
 -- at the end there is none

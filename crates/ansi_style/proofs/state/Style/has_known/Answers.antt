@@ -5,4 +5,4 @@ use Rattle.ansi_style.proofs.state.Style.has_known.Goals as goal
 pub returns : goal.returns
 unfolding rendition_of
 returns c =
-    rw (c.is_some.ensures, c.is_some-2.ensures, c.is_some-3.ensures, c.is_some-4.ensures, c.intersects.ensures) (simp (has_one-places, or_assoc, or-false))
+    rw (c.is_some.ensures, c.is_some-2.ensures, c.is_some-3.ensures, c.has_font.ensures, c.intersects.ensures) (simp (has_one-places, or_assoc, or-false))

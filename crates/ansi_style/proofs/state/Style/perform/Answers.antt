@@ -1,4 +1,4 @@
-use Rattle.ansi_style.proofs.Common.{◌≡◌, ◌∙◌, true, false, ap, arith, rules, nat_tests, Rendition, rendition_of}
+use Rattle.ansi_style.proofs.Common.{◌≡◌, false, ap, arith, rules, nat_tests, rendition_of}
 use Rattle.ansi_style.proofs.CodeLemmas.{effect_of_code-foreground, effect_of_code-background, is_in_table, effect_of_code-outside}
 use Rattle.ansi_style.proofs.state.Style.perform.Goals as goal
 use Rattle.ansi_style.proofs.state.Style.perform.Goals.{then-code-lt38, else-code-lt38+else-code-lt48+else-code-lt90+then-code-lt98, then-code-lt48, else-code-lt48+else-code-lt90+else-code-lt98+else-code-lt100+then-code-lt108, in_default-via-then-code-lt90, in_default-via-else-code-lt90+else-code-lt98+then-code-lt100, in_default-via-else-code-lt90+else-code-lt98+else-code-lt100+else-code-lt108}
@@ -20,9 +20,9 @@ returns-in-40-to-47 c = rw (effect_of_code-background c.args.code (elim c.in-40-
 pub returns-in_default : goal.returns-in_default
 unfolding rendition_of
 returns-in_default c =
-    let outside : (is_in_table c.args.code ≡ false) × (rendition_of c.in_default.self ≡ rendition_of c.args.self.now) = elim c.in_default.branch [
-      | in_default-via-then-code-lt90 w ↦ (grind (arith, nat_tests), ap rendition_of w.self-is)
-      | in_default-via-else-code-lt90+else-code-lt98+then-code-lt100 w ↦ (grind (arith, nat_tests), ap rendition_of w.self-is)
-      | in_default-via-else-code-lt90+else-code-lt98+else-code-lt100+else-code-lt108 w ↦ (grind (arith, nat_tests), ap rendition_of w.self-is)
+    let outside : is_in_table c.args.code ≡ false = elim c.in_default.branch [
+      | in_default-via-then-code-lt90 w ↦ grind (arith, nat_tests)
+      | in_default-via-else-code-lt90+else-code-lt98+then-code-lt100 w ↦ grind (arith, nat_tests)
+      | in_default-via-else-code-lt90+else-code-lt98+else-code-lt100+else-code-lt108 w ↦ grind (arith, nat_tests)
     ] in
-    rw (effect_of_code-outside c.args.code (omega arith) outside.0) (ap (λ s. (s, c.args.fields.now)) (c.set-in_default.ensures ∙ ap {A = Rendition} (λ s. record s { unknown = true }) outside.1))
+    rw (effect_of_code-outside c.args.code (omega arith) outside) (ap (λ s. (s, c.args.fields.now)) c.set-in_default.ensures)

@@ -8,13 +8,13 @@ unfolding rendition_of
 returns-clause-wrote g c = λ ok.
     let took = g.W.Sink.took in
     let reset = rw (c.contains-is_unknown.ensures tt, c.contains.ensures tt) at (c.in_ok-write_when.ensures.wrote (refl {a = true})) in
-    let font = rw c.is_some.ensures at (c.in_ok-write_when-2.ensures.wrote (refl {a = true})) in
+    let font = rw c.has_font.ensures at (c.in_ok-write_when-2.ensures.wrote (refl {a = true})) in
     let intensity = rw c.intersects.ensures at (c.in_ok-write_when-3.ensures.wrote (refl {a = true})) in
     let letters = rw (c.intersection.ensures tt) at (c.in_ok-write_rows.ensures.wrote (refl {a = true})) in
-    let foreground = rw c.is_some-2.ensures at (c.in_ok-write_when-4.ensures.wrote (refl {a = true})) in
-    let background = rw c.is_some-3.ensures at (c.in_ok-write_when-5.ensures.wrote (refl {a = true})) in
+    let foreground = rw c.is_some.ensures at (c.in_ok-write_when-4.ensures.wrote (refl {a = true})) in
+    let background = rw c.is_some-2.ensures at (c.in_ok-write_when-5.ensures.wrote (refl {a = true})) in
     let frames = rw (c.intersection-2.ensures tt) at (c.in_ok-write_rows-2.ensures.wrote (refl {a = true})) in
-    let underline_color = rw c.is_some-4.ensures at (c.in_ok-write_when-6.ensures.wrote (refl {a = true})) in
+    let underline_color = rw c.is_some-3.ensures at (c.in_ok-write_when-6.ensures.wrote (refl {a = true})) in
     let ends = rw (c.intersection-3.ensures tt) at (c.write_rows-3.ensures.wrote ok) in
     let underline_color_on = wrote_two took _ _ _ _ _ _ underline_color ends refl in
     let frames_on = wrote_two took _ _ _ _ _ _ frames underline_color_on refl in
