@@ -25,7 +25,7 @@ use Rattle.ansi_columns.proofs.CleanLineLemmas.{clean-wrapped_with}
 use Rattle.ansi_columns.proofs.EditLemmas.{IsEditing}
 use Rattle.ansi_columns.proofs.FirstFitLemmas.{lines-first_fit}
 use Rattle.ansi_columns.proofs.IndentLawLemmas.{shut-wrapped_with}
-use Rattle.ansi_columns.proofs.LentLemmas.{lent-true}
+use Rattle.ansi_columns.proofs.LentLemmas.{lent-true, lent-map}
 use Rattle.ansi_columns.proofs.OneLineLemmas.{clean-safe, clean-one_line, safe-paragraph}
 use Rattle.ansi_columns.proofs.RowLemmas.{screens-wrapped_with}
 
@@ -58,11 +58,6 @@ pub owned_wrapped : (t : List ℕ) (width : ℕ) {v : List ℕ} → v ≡ paragr
 owned_wrapped t width same = ap (λ u. lent_lines false (lines_of u width)) same ∙ sym (lent-none (bytes_eq (paragraph t) t) (lines_of (paragraph t) width))
 
 -- the lines keep their bytes
-
-lent-map : {B : Type 0} (f : List ℕ → B) (b : Bool) (ls : List CarriedPart) → map (λ (l : CarriedPart). f l.bytes) (lent_lines b ls) ≡ map (λ (l : CarriedPart). f l.bytes) ls
-lent-map f b [] = refl
-lent-map f b (l ∷ ls) = ap (λ ys. f l.bytes ∷ ys) (lent-map f b ls)
-
 lent-all : (P : List ℕ → Type 0) (b : Bool) (ls : List CarriedPart) → AllByRecursion (λ (l : CarriedPart). P l.bytes) ls → AllByRecursion (λ (l : CarriedPart). P l.bytes) (lent_lines b ls)
 lent-all P b [] all = tt
 lent-all P b (l ∷ ls) all = (all.0, lent-all P b ls all.1)

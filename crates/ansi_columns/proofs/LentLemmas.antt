@@ -1,12 +1,14 @@
 -- The lines of a wrap by whether its text lends them.
-use Rattle.std.proofs.Common.{◌≡◌, ℕ, ◌+◌, ◌≤◌, ◌==◌, true, false, List, [], ◌∷◌, length, Option, Some, None, Result, Ok, IsTrue, IsFalse, ◌↔◌, refl, sym, ◌∙◌, ap, ap₂, subst, arith}
+use Rattle.std.proofs.Common.{◌≡◌, ℕ, ◌+◌, ◌≤◌, inl, ◌==◌, true, false, Bool, List, [], ◌∷◌, length, map, Option, Some, None, Result, Ok, IsTrue, IsFalse, ◌↔◌, refl, sym, ◌∙◌, ap, ap₂, subst, arith}
 use Rattle.std.specs.Cow.{cow_str_bytes, IsBorrowedStr}
 use Rattle.std.specs.List.{list_all}
+use Rattle.std.specs.Str.{IsUtf8}
 use Rattle.std.specs.Prelude.{IsSome, bytes_eq, slice_range}
 use Rattle.std.specs.declared.borrow.CowStr.{CowStr}
 use Rattle.std.specs.declared.borrow.CowStr.TheVariants.{Borrowed, Owned}
 use Rattle.std.proofs.lemmas.Bool.{false_from_ne_true}
 use Rattle.std.proofs.lemmas.Slice.Eq.{bytes_eq-Decides}
+use Rattle.std.proofs.lemmas.Str.{IsCharBoundary-start}
 use Rattle.ansi_items.specs.Plain.{Mark, plain, marks, has_escape}
 use Rattle.ansi_safe.specs.Cells.{paragraph}
 use Rattle.ansi_style.specs.declared.state.rendition.Rendition.{Rendition}
@@ -16,17 +18,23 @@ use Rattle.ansi_style.specs.Written.{longest_start_and_close}
 use Rattle.ansi_safe.specs.Links.{longest_link_end}
 use Rattle.ansi_columns.specs.Columns.{clusters}
 use Rattle.ansi_columns.specs.Lines.{lines_from}
-use Rattle.ansi_columns.specs.Walks.{clusters_from}
+use Rattle.ansi_columns.specs.Walks.{clusters_from, IsWalk}
+use Rattle.ansi_columns.specs.declared.walks.Walk.{Walk}
 use Rattle.ansi_columns.specs.declared.wrap.spans.Next.{Next}
-use Rattle.ansi_columns.specs.declared.wrap.spans.Next.TheVariants.{First, Only, At, Nothing}
+use Rattle.ansi_columns.specs.declared.wrap.spans.Next.TheVariants.{Only, At, Nothing}
 use Rattle.ansi_columns.specs.declared.wrap.spans.Spans.{Spans}
 use Rattle.ansi_columns.specs.Wrapped.{CarriedPart, lines_over, lent_lines, wrapped, marks_left, GivesLine}
-use Rattle.ansi_columns.specs.WrapStates.{open_link, lines_of, lines_next, HasNext, lines_after, span_lines, AreNew, shown_text, is_lent, AreLeft}
+use Rattle.ansi_columns.specs.WrapStates.{open_link, lines_of, lines_next, HasNext, lines_after, span_lines, AreNew, AreTaken, shown_text, is_lent, AreLeft}
 use Rattle.ansi_columns.proofs.WrapLemmas.{lines_filled, marks_left-start, bare-borrowed}
 
 pub lent-true : (ls : List CarriedPart) → lent_lines true ls ≡ ls
 lent-true [] = refl
 lent-true (l ∷ ls) = ap (λ ks. l ∷ ks) (lent-true ls)
+
+-- lent or not, they have the same bytes
+pub lent-map : {B : Type 0} (f : List ℕ → B) (b : Bool) (ls : List CarriedPart) → map (λ (l : CarriedPart). f l.bytes) (lent_lines b ls) ≡ map (λ (l : CarriedPart). f l.bytes) ls
+lent-map f b [] = refl
+lent-map f b (l ∷ ls) = ap (λ ys. f l.bytes ∷ ys) (lent-map f b ls)
 
 pub gives-lent : {A E : Type 0} (old new : List CarriedPart) (r : Option (Result (CowStr A) E)) → GivesLine old r new → GivesLine (lent_lines true old) r (lent_lines true new)
 gives-lent old new r gives = subst (λ ls. GivesLine ls r (lent_lines true new)) (sym (lent-true old)) (subst (λ ls. GivesLine old r ls) (sym (lent-true new)) gives)
@@ -50,7 +58,6 @@ first-left t s some = by s.next some
     filled is some = filled-over (rendition_of s.pen.style) (open_link t s.pen) (plain t) (marks_left t s.before s.taken) is some
 
     by : (next : Next) → HasNext next → (l : CarriedPart) × (ls : List CarriedPart) × (lines_after t s next ≡ l ∷ ls)
-    by First some = filled (lines_next t s.width First) (lines_filled s.width 0 0 0 0 (clusters (plain t)))
     by (Only line) some = filled (lines_next t s.width (Only line)) (lines_filled s.width 0 0 0 0 (clusters (plain t)))
     by (At w) some = filled (lines_next t s.width (At w)) (lines_filled s.width w.position w.position w.position 0 (clusters_from t w.position))
     by Nothing some = absurd some
@@ -69,6 +76,15 @@ new-lines t s next first new =
     ∙ ap₂ (λ r l. lines_over r l (plain t) (marks_left t s.before s.taken) is) new.style link
     ∙ ap₂ (λ b k. lines_over plain_style [] (plain t) (marks_left t b k) is) new.before new.taken
     ∙ ap (λ ms. lines_over plain_style [] (plain t) ms is) (marks_left-start t)
+
+-- and the first one may begin at the beginning
+pub new-spans : (t : List ℕ) (s : Spans) (walk : Walk) → IsUtf8 t → AreNew s → IsWalk t walk → AreTaken t s walk
+new-spans t s walk utf8 new is =
+    let start = IsCharBoundary-start t utf8 in
+    record {
+      taken = record { is_walk = is; place = inl (new.before, new.taken); boundary = rw new.taken start; ordered = omega (arith, new.before) };
+      link = record { ordered = omega (arith, new.link_start, new.link_end); start_boundary = rw new.link_start start; end_boundary = rw new.link_end start };
+    }
 
 -- A text lends its lines if it is its own paragraph.
 

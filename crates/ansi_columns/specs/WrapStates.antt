@@ -11,7 +11,7 @@ use Rattle.ansi_style.specs.States.{rendition_of}
 use Rattle.ansi_columns.specs.declared.wrap.pens.PenAt.{PenAt}
 use Rattle.ansi_columns.specs.declared.walks.Walk.{Walk}
 use Rattle.ansi_columns.specs.declared.wrap.spans.Next.{Next}
-use Rattle.ansi_columns.specs.declared.wrap.spans.Next.TheVariants.{First, Only, At, Nothing}
+use Rattle.ansi_columns.specs.declared.wrap.spans.Next.TheVariants.{Only, At, Nothing}
 use Rattle.ansi_columns.specs.declared.wrap.spans.OnlyLine.{OnlyLine}
 use Rattle.ansi_columns.specs.declared.wrap.spans.Spans.{Spans}
 use Rattle.ansi_columns.specs.Columns.{clusters}
@@ -33,16 +33,18 @@ open_link t pen = slice_range t pen.link_start pen.link_end
 abbrev pub lines_of : List ℕ → ℕ → List CarriedPart
 lines_of t width = lines_over plain_style [] (plain t) (marks t) (lines width (plain t))
 
+-- the same, at a width that isn't 0
+abbrev pub lines_at : List ℕ → ℕ → List CarriedPart
+lines_at t width = lines_over plain_style [] (plain t) (marks t) (lines_from width 0 0 0 0 (clusters (plain t)))
+
 -- the positions of the next line of t and of those after it
 abbrev pub lines_next : List ℕ → ℕ → Next → List (ℕ × ℕ)
-lines_next t width First = lines_from width 0 0 0 0 (clusters (plain t))
 lines_next t width (Only line) = lines_from width 0 0 0 0 (clusters (plain t))
 lines_next t width (At walk) = lines_left t width (Some walk)
 lines_next t width Nothing = []
 
 -- a line is left
 abbrev pub HasNext : Next → Type 0
-HasNext First = Unit
 HasNext (Only line) = Unit
 HasNext (At walk) = Unit
 HasNext Nothing = ⊥
@@ -78,7 +80,6 @@ pub record IsOnlyLine (t : List ℕ) (width : ℕ) (line : OnlyLine) : Type 0 wh
 
 -- they are spans of t, if this is the next line
 abbrev pub AreSpansAt : List ℕ → Spans → Next → Type 0
-AreSpansAt t s First = AreNew s
 AreSpansAt t s (Only line) = AreNew s × IsOnlyLine t s.width line
 AreSpansAt t s (At walk) = AreTaken t s walk
 AreSpansAt t s Nothing = Unit

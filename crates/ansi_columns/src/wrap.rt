@@ -152,11 +152,15 @@ impl<'t, A: Allocator + Copy> AnsiWrap<'t, A> {
         ensures { result ≡ lent_lines (is_lent text.entry failure)
             (lines_of (shown_text text.entry failure) width) }
     {
+        let spans = match &failure {
+            None => Spans::new(text.as_str(), width),
+            Some(_) => Spans::unread(text.as_str(), width),
+        };
         AnsiWrap {
             alloc,
             text,
             failure,
-            spans: Spans::new(width),
+            spans,
         }
     }
 
@@ -239,24 +243,21 @@ pub fn has_next<A: Allocator>(lines: &AnsiWrap<'_, A>) -> bool
     lines.spans.has_next()
 }
 
-/// The text and the style at its end, if the only line that is left is known to be all of the text,
-/// which needs nothing but that style's close. `None` says nothing. Doesn't allocate. (Own.)
+/// The paragraph that is wrapped and the style at its end, if the only line that is left is known to be
+/// all of it, which needs nothing but that style's close. `None` says nothing. Doesn't allocate. (Own.)
 ///
 /// ```
 /// let lines = wrap(rt.alloc(), "\x1b[1mlion", 5);
 /// assert!(rt; matches!(only_line(&lines), Some((text, style)) if text.len() == 8 && style.is_bold()));
 /// ```
-pub fn only_line<'t, A: Allocator>(lines: &AnsiWrap<'t, A>) -> Option<(&'t str, Style)>
+pub fn only_line<'a, A: Allocator>(lines: &'a AnsiWrap<'_, A>) -> Option<(&'a str, Style)>
     ensures { IfSome result (λ (text, style). map (λ l. l.bytes) lines.now
         ≡ (text.now ++ close (rendition_of style)) ∷ []) }
 {
     let None = &lines.failure else {
         return None;
     };
-    match &lines.text {
-        CowStr::Borrowed(text) => Some((*text, lines.spans.only_style()?)),
-        CowStr::Owned(_) => None,
-    }
+    Some((lines.text.as_str(), lines.spans.only_style()?))
 }
 
 /// The next line of the caller's text.

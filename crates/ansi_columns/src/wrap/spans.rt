@@ -13,7 +13,7 @@ ghost use Rattle.ansi_columns.specs.Wrapped.{IsTaken};
 ghost use Rattle.ansi_columns.specs.WrapStates.{span_lines, lines_after, lines_of, HasNext};
 ghost use Rattle.ansi_columns.specs.PlainCells.{IsFront};
 ghost use Rattle.ansi_columns.specs.WrapStates.{AreNew, AreSpans, IsCharRange, IsOnlyLine};
-ghost use Rattle.ansi_columns.specs.declared.wrap.spans.Next.TheVariants.{First, At};
+ghost use Rattle.ansi_columns.specs.declared.wrap.spans.Next.TheVariants.{At};
 
 use crate::lines::first_line;
 use crate::plain_cells::{PlainFront, ascii_runs};
@@ -170,8 +170,6 @@ pub(crate) struct Spans {
 /// The next line.
 #[derive(Clone, Copy)]
 enum Next {
-    /// The first line. Nothing has been read.
-    First,
     /// The only line.
     Only(OnlyLine),
     /// The line that begins at a walk.
@@ -221,16 +219,21 @@ impl OnlyLine {
 }
 
 impl Spans {
-    /// The spans of all lines of any text.
-    pub(crate) fn new(width: usize) -> Self
-        ensures spans { (t : List ℕ) → AreSpans t result }
-        ensures some { HasNext result.next }
-        ensures lines { (t : List ℕ) → span_lines t result ≡ lines_of t width }
+    /// The spans of all lines of a text.
+    pub(crate) fn new(text: &str, width: usize) -> Self
+        ensures spans { AreSpans text.now result }
+        ensures lines { span_lines text.now result ≡ lines_of text.now width }
     {
-        Spans::begin(width.max(1), Next::First)
+        let width = width.max(1);
+        if let Some(front) = ascii_runs(text, width)
+            && let Some(line) = line_of_front(&front, width)
+        {
+            return Spans::begin(width, Next::Only(line));
+        }
+        Spans::begin(width, Next::At(Walk::start(text)))
     }
 
-    /// The spans of all lines of a text, or `None` if it isn't its own paragraph.
+    /// The same, or `None` if the text isn't its own paragraph.
     ///
     /// The front of the text that one pass finds to stay isn't tested again.
     #[inline(never)]
@@ -251,6 +254,16 @@ impl Spans {
             return None;
         }
         Some(Spans::begin(width, Next::At(Walk::start(text))))
+    }
+
+    /// The same as `new`, without a look at the text. They give the lines of any text, also of a
+    /// paragraph that there is no memory for.
+    pub(crate) fn unread(text: &str, width: usize) -> Self
+        ensures spans { AreSpans text.now result }
+        ensures some { HasNext result.next }
+        ensures lines { (t : List ℕ) → span_lines t result ≡ lines_of t width }
+    {
+        Spans::begin(width.max(1), Next::At(Walk::start(text)))
     }
 
     /// Spans of which none is taken.
@@ -309,23 +322,6 @@ impl Spans {
                 self.finish();
                 Some(line.span(text))
             }
-            Next::First => Some(self.first(text)),
-        }
-    }
-
-    /// The span of the first line. (Not inlined: `next` has a copy of `line_at` already.)
-    #[inline(never)]
-    fn first<'t>(&mut self, text: &'t str) -> Span<'t>
-        requires { AreNew self.old }
-        ensures spans { AreSpans text.now self.new }
-        ensures lines { lines_after text.now self.old First ≡ result ∷ span_lines text.now self.new }
-    {
-        match only_line(text, self.width) {
-            Some(line) => {
-                self.finish();
-                line.span(text)
-            }
-            None => self.line_at(text, Walk::start(text)),
         }
     }
 
@@ -366,14 +362,6 @@ impl Spans {
         self.pen = after;
         span
     }
-}
-
-/// The only line of a text, if that is printable ASCII and select graphic renditions alone, fits, and
-/// doesn't end with a blank. `None` says nothing.
-fn only_line(text: &str, width: usize) -> Option<OnlyLine>
-    ensures { IfSome result (IsOnlyLine text.now width) }
-{
-    line_of_front(&ascii_runs(text, width)?, width)
 }
 
 /// The only line of a text, if this front is all of it and doesn't end with a blank. `None` says nothing.

@@ -1,12 +1,18 @@
-use Rattle.std.proofs.Common.{map, sym, ◌∙◌, ap, ap₂}
-use Rattle.ansi_columns.specs.Wrapped.{CarriedPart, lent_lines}
+use Rattle.std.proofs.Common.{◌++◌, ◌∷◌, [], map, sym, ◌∙◌, ap}
+use Rattle.std.specs.Cow.{cow_str_bytes}
+use Rattle.ansi_style.specs.States.{rendition_of}
+use Rattle.ansi_style.specs.Written.{close}
+use Rattle.ansi_columns.specs.Wrapped.{CarriedPart}
 use Rattle.ansi_columns.specs.WrapStates.{shown_text, is_lent, span_lines}
-use Rattle.ansi_columns.proofs.LentLemmas.{lent-true}
+use Rattle.ansi_columns.proofs.LentLemmas.{lent-map}
 use Rattle.ansi_columns.proofs.wrap.only_line.Goals as goal
 
-pub returns-in_ok-only_style-in-Borrowed : goal.returns-in_ok-only_style-in-Borrowed
-returns-in_ok-only_style-in-Borrowed g c =
+pub returns : goal.returns
+returns g c =
     let s = c.lines.inside in
-    let t = c.in-Borrowed.text.now in
-    let lent = ap₂ (λ u f. lent_lines (is_lent u f) (span_lines (shown_text u f) s.spans)) c.in-Borrowed.is c.in-None.is in
-    ap (map (λ (l : CarriedPart). l.bytes)) (sym c.lines.view_is ∙ lent ∙ lent-true (span_lines t s.spans)) ∙ c.in_ok-only_style-in-Borrowed.ensures t (rw c.in-Borrowed.is at c.lines.invariant.spans)
+    let t = cow_str_bytes s.text in
+    ap (map (λ (l : CarriedPart). l.bytes)) (sym c.lines.view_is)
+    ∙ lent-map (λ w. w) (is_lent s.text s.failure) (span_lines (shown_text s.text s.failure) s.spans)
+    ∙ ap (λ f. map (λ (l : CarriedPart). l.bytes) (span_lines (shown_text s.text f) s.spans)) c.in-None.is
+    ∙ c.in_ok-only_style.ensures t c.lines.invariant.spans
+    ∙ ap (λ u. (u ++ close (rendition_of c.in_ok-only_style.field-0)) ∷ []) (sym c.as_str.ensures.value)

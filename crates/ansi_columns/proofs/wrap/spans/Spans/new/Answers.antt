@@ -1,21 +1,29 @@
-use Rattle.std.proofs.Common.{[], sym, ◌∙◌, ap, subst}
-use Rattle.ansi_items.specs.Plain.{plain, marks}
-use Rattle.ansi_style.specs.Rendition.{plain_style}
-use Rattle.ansi_columns.specs.Columns.{clusters}
-use Rattle.ansi_columns.specs.Lines.{lines_from}
-use Rattle.ansi_columns.specs.Wrapped.{lines_over}
-use Rattle.ansi_columns.specs.WrapStates.{lines_next, HasNext, AreSpansAt}
-use Rattle.ansi_columns.proofs.LentLemmas.{new-lines}
+use Rattle.std.proofs.Common.{sym, ◌∙◌, ap, subst}
+use Rattle.ansi_columns.specs.WrapStates.{lines_at, lines_next, AreSpansAt}
+use Rattle.ansi_columns.proofs.LentLemmas.{new-lines, new-spans}
+use Rattle.ansi_columns.proofs.WrapLemmas.{lines_left-start}
 use Rattle.ansi_columns.proofs.wrap.spans.Spans.new.Goals as goal
 
-pub returns-clause-spans : goal.returns-clause-spans
-returns-clause-spans c = λ t. (let s = c.begin.result in subst (AreSpansAt t s) (sym c.begin.ensures.next) c.begin.ensures.new)
+-- there is only one line
 
-pub returns-clause-some : goal.returns-clause-some
-returns-clause-some c = subst HasNext (sym c.begin.ensures.next) tt
-
--- nothing is carried, and all marks and lines are left
 pub returns-clause-lines : goal.returns-clause-lines
-returns-clause-lines c t =
+returns-clause-lines c =
+    let t = c.args.text.now in
     let s = c.begin.result in
-    new-lines t s s.next (ap (lines_next t s.width) c.begin.ensures.next) c.begin.ensures.new ∙ ap (λ w. lines_over plain_style [] (plain t) (marks t) (lines_from w 0 0 0 0 (clusters (plain t)))) (c.begin.ensures.width ∙ c.max.ensures)
+    let made = c.begin.ensures in
+    new-lines t s s.next (ap (lines_next t s.width) made.next) made.new ∙ ap (lines_at t) (made.width ∙ c.max-width.ensures)
+
+-- or the first one begins at the beginning
+
+pub returns-2-clause-spans : goal.returns-2-clause-spans
+returns-2-clause-spans c =
+    let t = c.args.text.now in
+    let s = c.begin-2.result in
+    subst (AreSpansAt t s) (sym c.begin-2.ensures.next) (new-spans t s c.start.result c.utf8.text c.begin-2.ensures.new c.start.ensures.walk)
+
+pub returns-2-clause-lines : goal.returns-2-clause-lines
+returns-2-clause-lines c =
+    let t = c.args.text.now in
+    let s = c.begin-2.result in
+    let made = c.begin-2.ensures in
+    new-lines t s s.next (ap (lines_next t s.width) made.next ∙ lines_left-start t s.width c.start.result c.start.ensures.position) made.new ∙ ap (lines_at t) (made.width ∙ c.max-width.ensures)

@@ -1,5 +1,5 @@
 use Rattle.std.proofs.Common.{◌∷◌, sym, ◌∙◌, ap}
-use Rattle.ansi_columns.specs.WrapStates.{lines_next, lines_after}
+use Rattle.ansi_columns.specs.WrapStates.{lines_next}
 use Rattle.ansi_columns.proofs.LentLemmas.{none-left, new-lines}
 use Rattle.ansi_columns.proofs.wrap.spans.Spans.next.Goals as goal
 
@@ -19,11 +19,3 @@ returns-in-Only-clause-lines c =
     let t = c.args.text.now in
     let are = rw c.in-Only.is at c.requires in
     new-lines t c.args.self.now c.args.self.now.next (ap (lines_next t c.args.self.now.width) c.in-Only.is) are.0 ∙ c.span.ensures c.args.self.now.width are.1 ∙ ap (λ ls. c.span.result ∷ ls) (sym (c.finish.ensures.lines t))
-
--- the first line
-
-pub first-requires : goal.first-requires
-first-requires c = rw c.in-First.is at c.requires
-
-pub returns-in-First-clause-lines : goal.returns-in-First-clause-lines
-returns-in-First-clause-lines c = ap (lines_after c.args.text.now c.args.self.now) c.in-First.is ∙ c.first.ensures.lines
