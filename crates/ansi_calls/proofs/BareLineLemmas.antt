@@ -15,14 +15,14 @@ use Rattle.ansi_safe.specs.Cells.{paragraph}
 use Rattle.ansi_safe.specs.Safe.{is_printable_byte, is_printing, is_allowed, all_allowed}
 use Rattle.ansi_safe.proofs.CellLemmas.{placed-stays}
 use Rattle.ansi_safe.proofs.FrontLemmas.{printable-ascii}
-use Rattle.ansi_columns.specs.Columns.{clusters}
-use Rattle.ansi_columns.specs.Lines.{lines_from}
-use Rattle.ansi_columns.specs.PlainCells.{IsPlainCell, last_byte}
-use Rattle.ansi_columns.specs.Wrapped.{CarriedPart, lines_over, line_over}
-use Rattle.ansi_columns.proofs.AsciiLemmas.{printable-prints}
-use Rattle.ansi_columns.proofs.LentLemmas.{wrapped-itself}
-use Rattle.ansi_columns.proofs.OnlyLineLemmas.{only-line, only-bytes}
-use Rattle.ansi_columns.proofs.PlainCellLemmas.{plain-bare}
+use Rattle.ansi_clusters.specs.Columns.{clusters}
+use Rattle.ansi_clusters.specs.Lines.{lines_from}
+use Rattle.ansi_cells.specs.PlainCells.{IsPlainCell, last_byte}
+use Rattle.ansi_cells.specs.Wrapped.{CarriedPart, lines_over, line_over}
+use Rattle.ansi_clusters.proofs.AsciiLemmas.{printable-prints}
+use Rattle.ansi_wraps.proofs.LentLemmas.{wrapped-itself}
+use Rattle.ansi_wraps.proofs.OnlyLineLemmas.{only-line, only-bytes}
+use Rattle.ansi_cells.proofs.PlainCellLemmas.{plain-bare}
 use Rattle.ansi_calls.specs.Columns.{wrapped_lines}
 
 -- each character is allowed, is no TAB, and no ESC

@@ -1,11 +1,3 @@
-pub mod Utf8Lemmas
-pub mod StepLemmas
-pub mod GivenLemmas
-pub mod ListLemmas
-pub mod CopyLemmas
-pub mod ByteLemmas
 pub mod LineListLemmas
-pub mod LinkListLemmas
-pub mod PenLemmas
-pub mod MadeLemmas
 pub mod BareLineLemmas
+pub mod ShownLemmas

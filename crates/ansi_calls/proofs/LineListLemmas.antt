@@ -20,16 +20,16 @@ use Rattle.ansi_style.proofs.UnsetLemmas.{start-unset}
 use Rattle.ansi_slice.specs.Cut.{interleaved}
 use Rattle.ansi_str.specs.Parts.{marks_past}
 use Rattle.ansi_slice.proofs.InterleavedLemmas.{interleaved-bare}
-use Rattle.ansi_columns.specs.Columns.{clusters, cluster_width, lined}
+use Rattle.ansi_clusters.specs.Columns.{clusters, cluster_width, lined}
 use Rattle.ansi_safe.specs.Cells.{paragraph}
 use Rattle.ansi_safe.specs.Links.{link_after_all}
-use Rattle.ansi_columns.specs.Lines.{lines_from, lines, place_line, shown_lines, AreLinesFrom}
-use Rattle.ansi_columns.specs.Wrapped.{CarriedPart, pen_end, line_over, lines_over, wrapped}
-use Rattle.ansi_columns.proofs.LentLemmas.{wrapped-itself}
-use Rattle.ansi_columns.proofs.LineLemmas.{line-any, line-last}
-use Rattle.ansi_columns.proofs.ShownLineLemmas.{lined-length, lined-utf8}
-use Rattle.ansi_columns.proofs.ClusterLawLemmas.{clusters_after-bytes}
-use Rattle.ansi_calls.proofs.GivenLemmas.{joined_texts}
+use Rattle.ansi_clusters.specs.Lines.{lines_from, lines, place_line, shown_lines, AreLinesFrom}
+use Rattle.ansi_cells.specs.Wrapped.{CarriedPart, pen_end, line_over, lines_over, wrapped}
+use Rattle.ansi_wraps.proofs.LentLemmas.{wrapped-itself}
+use Rattle.ansi_clusters.proofs.LineLemmas.{line-any, line-last}
+use Rattle.ansi_clusters.proofs.ShownLineLemmas.{lined-length, lined-utf8}
+use Rattle.ansi_clusters.proofs.ClusterLawLemmas.{clusters_after-bytes}
+use Rattle.ansi_text_calls.proofs.GivenLemmas.{joined_texts}
 use Rattle.ansi_calls.specs.Columns.{line_entry, line_entries, wrapped_lines}
 
 -- Their bytes.

@@ -2,9 +2,9 @@
 use Rattle.std.specs.Prelude.{ℕ, ◌==◌, List, ◌∷◌, map, filter_map, Option, None, Some, option_map, is_some, true, if◌then◌else◌}
 use Rattle.std.specs.List.{list_all}
 use Rattle.ansi_columns.specs.Edits.{Change, Expanded, Sliced, Truncated, Padded, Fitted, edited}
-use Rattle.ansi_calls.specs.declared.answers.Answer.{Answer}
+use Rattle.ansi_text_calls.specs.declared.answers.Answer.{Answer}
 use Rattle.ansi_calls.specs.declared.column_edits.ColumnStep.{ColumnStep}
-use Rattle.ansi_calls.specs.Answers.{refused, not_utf8, OnUtf8, HasFailed, Gives}
+use Rattle.ansi_text_calls.specs.Answers.{refused, not_utf8, OnUtf8, HasFailed, Gives}
 use Rattle.ansi_calls.specs.Columns.{alignment_of, side_of}
 
 -- the change of a step, by the kinds of the header, if there is such a kind, alignment or side

@@ -2,29 +2,29 @@
 use Rattle.std.specs.Prelude.{Bool, ◌≡◌, ◌⊎◌, ℕ, true, not, ◌&&◌, ◌||◌, ◌==◌, List, [], ◌∷◌, length, map, flat_map, bytes_eq, Option, None, Some, if◌then◌else◌}
 use Rattle.std.specs.Option.{option_map_or}
 use Rattle.std.specs.Str.{IsCharBoundary}
-use Rattle.ansi_columns.specs.declared.shown.Alignment.{Alignment}
-use Rattle.ansi_columns.specs.declared.shown.Alignment.TheVariants.{Left, Right, Center}
-use Rattle.ansi_columns.specs.declared.sides.Side.{Side}
-use Rattle.ansi_columns.specs.declared.sides.Side.TheVariants.{End, Start, Middle}
-use Rattle.ansi_columns.specs.Addresses.{address_at}
-use Rattle.ansi_columns.specs.Columns.{columns, column_of, ShowsUpTo}
+use Rattle.ansi_cells.specs.declared.shown.Alignment.{Alignment}
+use Rattle.ansi_cells.specs.declared.shown.Alignment.TheVariants.{Left, Right, Center}
+use Rattle.ansi_cells.specs.declared.sides.Side.{Side}
+use Rattle.ansi_cells.specs.declared.sides.Side.TheVariants.{End, Start, Middle}
+use Rattle.ansi_cells.specs.Addresses.{address_at}
+use Rattle.ansi_clusters.specs.Columns.{columns, column_of, ShowsUpTo}
 use Rattle.ansi_items.specs.Plain.{plain, has_escape}
-use Rattle.ansi_columns.specs.Fitted.{fitted}
-use Rattle.ansi_columns.specs.Lines.{shown_lines}
-use Rattle.ansi_columns.specs.LineWalks.{lines_of_walk, IsLineWalk}
-use Rattle.ansi_columns.specs.declared.line_walks.LineWalk.{LineWalk}
-use Rattle.ansi_columns.specs.Shown.{truncated, truncated_ending, padded, missing, closing, closed_cell}
-use Rattle.ansi_columns.specs.Sides.{truncated_at}
-use Rattle.ansi_columns.specs.Slices.{is_sliced_stretch, sliced}
-use Rattle.ansi_columns.specs.Tabs.{has_tab, expanded}
-use Rattle.ansi_columns.specs.Indents.{wrapped_with}
-use Rattle.ansi_columns.specs.Wrapped.{CarriedPart, wrapped}
+use Rattle.ansi_cells.specs.Fitted.{fitted}
+use Rattle.ansi_clusters.specs.Lines.{shown_lines}
+use Rattle.ansi_clusters.specs.LineWalks.{lines_of_walk, IsLineWalk}
+use Rattle.ansi_clusters.specs.declared.line_walks.LineWalk.{LineWalk}
+use Rattle.ansi_cells.specs.Shown.{truncated, truncated_ending, padded, missing, closing, closed_cell}
+use Rattle.ansi_cells.specs.Sides.{truncated_at}
+use Rattle.ansi_cells.specs.Slices.{is_sliced_stretch, sliced}
+use Rattle.ansi_cells.specs.Tabs.{has_tab, expanded}
+use Rattle.ansi_cells.specs.Indents.{wrapped_with}
+use Rattle.ansi_cells.specs.Wrapped.{CarriedPart, wrapped}
 use Rattle.ansi_safe.specs.Cells.{cell, is_cell, paragraph}
-use Rattle.ansi_calls.specs.declared.answers.Answer.{Answer}
+use Rattle.ansi_text_calls.specs.declared.answers.Answer.{Answer}
 use Rattle.ansi_calls.specs.declared.lines.LineEntry.{LineEntry}
-use Rattle.ansi_calls.specs.declared.lists.ListAnswer.{ListAnswer}
-use Rattle.ansi_calls.specs.Answers.{no, refused, not_utf8, done, failed, OnUtf8, HasFailed, IsFound, Gives}
-use Rattle.ansi_calls.specs.Lists.{ends_from, AreWritten, HaveFailed, GivesAll}
+use Rattle.ansi_text_calls.specs.declared.lists.ListAnswer.{ListAnswer}
+use Rattle.ansi_text_calls.specs.Answers.{no, refused, not_utf8, done, failed, OnUtf8, HasFailed, IsFound, Gives}
+use Rattle.ansi_text_calls.specs.Lists.{ends_from, AreWritten, HaveFailed, GivesAll}
 
 -- the alignments, by the numbers that the header gives them
 abbrev pub alignment_of : ℕ → Option Alignment

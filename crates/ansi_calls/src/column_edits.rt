@@ -6,10 +6,10 @@ ghost use Rattle.ansi_columns.specs.Edits.{change_of, changes_of};
 ghost use Rattle.ansi_calls.specs.ColumnSteps.{change_of_step, changes_of_steps, tails_of};
 ghost use Rattle.ansi_calls.specs.ColumnSteps.{EditsColumns, GivesColumnsEdited};
 
-use crate::answers::{Answer, NOT_UTF8, OUT_OF_MEMORY, REFUSED, write_text};
 use crate::columns::{alignment_of, side_of};
 use ansi_columns::edits::ColumnEdit;
 use ansi_safe::utf8::from_utf8;
+use ansi_text_calls::answers::{Answer, NOT_UTF8, OUT_OF_MEMORY, REFUSED, write_text};
 use std::alloc::{AllocError, Allocator};
 use std::str::from_utf8_unchecked;
 

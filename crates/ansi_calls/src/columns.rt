@@ -2,10 +2,10 @@
 ghost use Rattle.std.specs.Prelude.{◌≡◌, Some, MatchResult, IsUtf8};
 ghost use Rattle.std.specs.Option.{MatchOption};
 ghost use Rattle.ansi_safe.specs.Cells.{cell};
-ghost use Rattle.ansi_columns.specs.declared.shown.Alignment.{Alignment};
-ghost use Rattle.ansi_columns.specs.Fitted.{fitted};
-ghost use Rattle.ansi_columns.specs.Shown.{truncated, padded};
-ghost use Rattle.ansi_calls.specs.Answers.{IsWritten};
+ghost use Rattle.ansi_cells.specs.declared.shown.Alignment.{Alignment};
+ghost use Rattle.ansi_cells.specs.Fitted.{fitted};
+ghost use Rattle.ansi_cells.specs.Shown.{truncated, padded};
+ghost use Rattle.ansi_text_calls.specs.Answers.{IsWritten};
 ghost use Rattle.ansi_calls.specs.Columns.{alignment_of, TellsWidth, TellsFitting, TellsColumn};
 ghost use Rattle.ansi_calls.specs.Columns.{Truncates, Pads};
 ghost use Rattle.ansi_calls.specs.Columns.{GivesTruncated, GivesPadded, Slices, GivesSliced};
@@ -13,7 +13,6 @@ ghost use Rattle.ansi_calls.specs.Columns.{Fits, GivesFitted, side_of, Truncates
 ghost use Rattle.ansi_calls.specs.Columns.{GivesTruncatedAt, ExpandsTabs, GivesExpanded};
 ghost use Rattle.ansi_calls.specs.Columns.{WritesLink};
 
-use crate::answers::{Answer, NO, NOT_UTF8, OUT_OF_MEMORY, REFUSED, write, write_text};
 use crate::shown::{write_bare, write_shown, write_slice};
 use ansi_columns::bare::{Bare, missing_bare, truncate_bare};
 use ansi_columns::fit::fit_shown;
@@ -21,6 +20,7 @@ use ansi_columns::shown::{Alignment, closed_cell, pad_shown, truncate_shown};
 use ansi_columns::sides::{Side, Truncation};
 use ansi_columns::{addresses, columns, sides, slices, tabs};
 use ansi_safe::utf8::{Utf8Error, from_utf8};
+use ansi_text_calls::answers::{Answer, NO, NOT_UTF8, OUT_OF_MEMORY, REFUSED, write, write_text};
 use std::alloc::Allocator;
 
 const LEFT: u32 = 0;

@@ -5,14 +5,11 @@ ghost use Rattle.std.specs.Prelude.{◌∷◌, IsTrue, IsFalse, IfNone, IfSome, 
 ghost use Rattle.std.specs.Prelude.{IfOk, string_bytes};
 ghost use Rattle.ansi_items.specs.Plain.{has_escape};
 ghost use Rattle.ansi_safe.specs.Cells.{paragraph};
-ghost use Rattle.ansi_calls.specs.Lists.{ends_from, AreCopied, AreWritten};
-ghost use Rattle.ansi_columns.specs.LineWalks.{IsLineWalk};
+ghost use Rattle.ansi_text_calls.specs.Lists.{ends_from, AreCopied, AreWritten};
+ghost use Rattle.ansi_clusters.specs.LineWalks.{IsLineWalk};
 ghost use Rattle.ansi_calls.specs.Columns.{wrapped_lines, Wraps, GivesIndented, WrapsWith};
 ghost use Rattle.ansi_calls.specs.Columns.{line_entries, WritesLines, BeginsLines, GivesNextLine};
 
-use crate::answers::{Answer, NO, NOT_UTF8, OK, TOO_SMALL};
-use crate::lists::{ListAnswer, copy_texts, put, write_copied, write_list, write_texts};
-use crate::walks::write_between;
 use ansi_columns::laws;
 use ansi_columns::line_walks::{LineWalk, next_line, walk_lines};
 use ansi_columns::lines::Lines;
@@ -23,6 +20,9 @@ use ansi_safe::printable::printable_len;
 use ansi_safe::utf8::from_utf8;
 use ansi_str::AnsiStr;
 use ansi_style::styles;
+use ansi_text_calls::answers::{Answer, NO, NOT_UTF8, OK, TOO_SMALL};
+use ansi_text_calls::lists::{ListAnswer, copy_texts, put, write_copied, write_list, write_texts};
+use ansi_text_calls::walks::write_between;
 use std::alloc::Allocator;
 
 /// An entry for a line: where it begins and ends, in bytes of the plain text.

@@ -4,18 +4,20 @@ ghost use Rattle.std.specs.Prelude.{IfSome, MatchResult};
 ghost use Rattle.std.specs.Option.{MatchOption};
 ghost use Rattle.ansi_str.specs.States.{rendition_of};
 ghost use Rattle.ansi_str.specs.Written.{start, close};
-ghost use Rattle.ansi_columns.specs.Shown.{blanks, between_blanks, shown_bytes, IsLent};
-ghost use Rattle.ansi_columns.specs.Slices.{stretch_bytes, sliced_bytes, IsLentSlice};
-ghost use Rattle.ansi_calls.specs.Answers.{out_of_memory, HasFailed, IsWritten};
+ghost use Rattle.ansi_clusters.specs.Lines.{blanks};
+ghost use Rattle.ansi_cells.specs.Shown.{between_blanks, shown_bytes, IsLent};
+ghost use Rattle.ansi_cells.specs.Slices.{stretch_bytes, sliced_bytes, IsLentSlice};
+ghost use Rattle.ansi_text_calls.specs.Answers.{out_of_memory, HasFailed, IsWritten};
 
-use crate::answers::{Answer, OUT_OF_MEMORY, write, write_made, write_text};
-use crate::lists::put;
 use ansi_columns::bare::Bare;
 use ansi_columns::shown::{Alignment, Shown, join};
 use ansi_columns::slices::{Sliced, Stretch};
 use ansi_style::state::Style;
 use ansi_style::styles;
 use ansi_style::styles::SHORT;
+use ansi_text_calls::answers::{Answer, OUT_OF_MEMORY, write, write_made, write_text};
+use ansi_text_calls::lists::put;
+use ansi_text_calls::walks::short_start;
 use arrayvec::ArrayString;
 use std::alloc::{AllocError, Allocator};
 
@@ -154,17 +156,6 @@ fn write_stretch(stretch: &Stretch<'_>, buffer: &mut [u8]) -> Option<usize>
     let place = put_str(text, place, buffer);
     let place = put_str(link_end, place, buffer);
     Some(put_str(close, place, buffer))
-}
-
-/// The start of a style, if it is short. `None` says nothing.
-#[inline(always)]
-pub(crate) fn short_start(style: &Style) -> Option<ArrayString<SHORT>>
-    ensures { IfSome result (λ s. s.bytes ≡ start (rendition_of style.now)) }
-{
-    if !styles::has_any(style) {
-        return Some(ArrayString::new());
-    }
-    styles::short_start(style)
 }
 
 /// The close of a style, if it is short. `None` says nothing.

@@ -16,24 +16,24 @@ use Rattle.ansi_safe.proofs.CellLemmas.{plain_of-merged}
 use Rattle.ansi_safe.proofs.CellTextLemmas.{cell-stays, IsUtf8-cell, whole-cell}
 use Rattle.ansi_safe.proofs.SafeLemmas.{AreGood, good_stand}
 use Rattle.ansi_columns.specs.declared.edits.ColumnEdit.{ColumnEdit}
-use Rattle.ansi_columns.specs.declared.shown.Alignment.TheVariants.{Left}
-use Rattle.ansi_columns.specs.Columns.{columns}
+use Rattle.ansi_cells.specs.declared.shown.Alignment.TheVariants.{Left}
+use Rattle.ansi_clusters.specs.Columns.{columns}
 use Rattle.ansi_columns.specs.Edits.{Change, change_of, changes_of, IsLent, AreLent, Expanded, Sliced, Truncated, Padded, Fitted, HasUtf8Tail, is_expansion, changed, changed_in_turn, only_expand, edited, changed_row, row_in_turn, edited_row}
-use Rattle.ansi_columns.specs.Rows.{row, cell_row, row_screen, truncated_row_at, fitted_row}
-use Rattle.ansi_columns.specs.Screens.{screen}
-use Rattle.ansi_columns.specs.Shown.{closed_cell}
-use Rattle.ansi_columns.specs.Tabs.{piece_has_tab, expanded}
-use Rattle.ansi_columns.proofs.CleanShownLemmas.{clean-padded_cell, clean-sliced_cell}
-use Rattle.ansi_columns.proofs.IndentLemmas.{padded-closed_alone}
-use Rattle.ansi_columns.proofs.IndentLawLemmas.{shut-cell}
-use Rattle.ansi_columns.proofs.LinkedLawLemmas.{padded-whole}
-use Rattle.ansi_columns.proofs.OneLineLemmas.{Prints, Prints-parts, printing_are_allowed, IsClean, clean-safe, clean-one_line, safe_are_good}
-use Rattle.ansi_columns.proofs.RowLemmas.{screen-row, row-padded, row-fitted, row-sliced, row-truncated_at, row-closed_cell}
+use Rattle.ansi_cells.specs.Rows.{row, cell_row, row_screen, truncated_row_at, fitted_row}
+use Rattle.ansi_cells.specs.Screens.{screen}
+use Rattle.ansi_cells.specs.Shown.{closed_cell}
+use Rattle.ansi_cells.specs.Tabs.{piece_has_tab, expanded}
+use Rattle.ansi_cells.proofs.CleanShownLemmas.{clean-padded_cell, clean-sliced_cell}
+use Rattle.ansi_cells.proofs.IndentLemmas.{padded-closed_alone}
+use Rattle.ansi_cells.proofs.IndentLawLemmas.{shut-cell}
+use Rattle.ansi_cells.proofs.LinkedLawLemmas.{padded-whole}
+use Rattle.ansi_cells.proofs.OneLineLemmas.{Prints, Prints-parts, printing_are_allowed, IsClean, clean-safe, clean-one_line, safe_are_good}
+use Rattle.ansi_cells.proofs.RowLemmas.{screen-row, row-padded, row-fitted, row-sliced, row-truncated_at, row-closed_cell}
 use Rattle.ansi_columns.proofs.SequenceLemmas.{good-utf8}
-use Rattle.ansi_columns.proofs.SliceLawLemmas.{sliced-whole, sliced-closed}
-use Rattle.ansi_columns.proofs.StyledLawLemmas.{padded-is_closed}
-use Rattle.ansi_columns.proofs.TabLemmas.{expanded-no_tab}
-use Rattle.ansi_columns.proofs.TailLemmas.{IsShown, shown-cell, shown-truncated_at, shown-fitted, all-on_line}
+use Rattle.ansi_cells.proofs.SliceLawLemmas.{sliced-whole, sliced-closed}
+use Rattle.ansi_cells.proofs.StyledLawLemmas.{padded-is_closed}
+use Rattle.ansi_cells.proofs.TabLemmas.{expanded-no_tab}
+use Rattle.ansi_cells.proofs.TailLemmas.{IsShown, shown-cell, shown-truncated_at, shown-fitted, all-on_line}
 
 -- ---- a text that is safe and on one line stays in a cell
 
@@ -233,3 +233,12 @@ module _ (changes : List Change) (t u : List ℕ) (editing : IsEditing changes t
 
       pub closed-screen : screen v ≡ row_screen (edited_row changes t)
       closed-screen = screen-row v ∙ ap row_screen (ap row closes ∙ row-closed_cell u utf8 ∙ editing.shows)
+
+-- after expansions alone
+pub only-editing : (changes : List Change) (t u : List ℕ) → u ≡ changed_in_turn changes t → cell_row u ≡ edited_row changes t → only_expand changes ≡ true → IsEditing changes t [] u
+only-editing changes t u bytes row only = record { bytes = bytes; shows = row; kind = inr (sym only) }
+
+-- no edit is left to be made
+pub lent-ended : {b all : Type 0} (u : List ℕ) (left : List ColumnEdit) → length left < 1 → ((b × AreLent (changes_of left) u) ↔ all) → b ↔ all
+lent-ended u [] short lent = (λ is. lent.0 (is, tt), λ is. (lent.1 is).0)
+lent-ended u (e ∷ es) short lent = absurd (omega (arith, short))

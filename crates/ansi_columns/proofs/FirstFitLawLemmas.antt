@@ -4,11 +4,11 @@ use Rattle.std.specs.List.{list_all}
 use Rattle.std.proofs.lemmas.Bool.{cases_Bool, cases_lt, and_parts, and_from, ne_eqb, not-true}
 use Rattle.std.proofs.lemmas.List.{append_cancel_left, nil_from_length}
 use Rattle.std.proofs.lemmas.List.Folds.{list_all-append}
-use Rattle.ansi_columns.specs.Columns.{columns_of, bytes_of}
-use Rattle.ansi_columns.specs.Lines.{is_line_end, is_blank}
-use Rattle.ansi_columns.specs.FirstFit.{is_of_word, front_of, rest_of, blanks_of, word_of, left_out, needed, IsFilled, IsFirstLine, AreFirstFit, IsFirstFit}
-use Rattle.ansi_columns.proofs.LineLemmas.{IsOfWord}
-use Rattle.ansi_columns.proofs.FirstFitLemmas.{Clusters, AreAfter, AreNext, columns_of-append, columns_of-cons, of_word-is, of_word-blank, front-stops, front-goes_on, blanks-then, word-then}
+use Rattle.ansi_clusters.specs.Columns.{columns_of, bytes_of}
+use Rattle.ansi_clusters.specs.Lines.{is_line_end, is_blank}
+use Rattle.ansi_clusters.specs.FirstFit.{is_of_word, front_of, rest_of, blanks_of, word_of, left_out, needed, IsFilled, IsFirstLine, AreFirstFit, IsFirstFit}
+use Rattle.ansi_clusters.proofs.LineLemmas.{IsOfWord}
+use Rattle.ansi_clusters.proofs.FirstFitLemmas.{Clusters, AreAfter, AreNext, columns_of-append, columns_of-cons, of_word-is, of_word-blank, front-stops, front-goes_on, blanks-then, word-then}
 
 -- Clusters are blanks, or blanks and then others of which the first is none.
 

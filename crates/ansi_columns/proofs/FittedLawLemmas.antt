@@ -8,13 +8,13 @@ use Rattle.std.proofs.lemmas.Str.{IsUtf8-nil, IsUtf8-take, IsUtf8-append}
 use Rattle.ansi_items.specs.Plain.{plain, is_whole}
 use Rattle.ansi_items.proofs.Utf8Lemmas.{IsUtf8-plain}
 use Rattle.ansi_search.proofs.SliceLemmas.{list_all-parts}
-use Rattle.ansi_columns.specs.declared.shown.Alignment.{Alignment}
-use Rattle.ansi_columns.specs.Columns.{columns, IsClusterBoundary}
-use Rattle.ansi_columns.specs.Fitted.{fitted}
-use Rattle.ansi_columns.specs.Shown.{has_tail, truncated_end, truncated, missing, before_text}
-use Rattle.ansi_columns.proofs.AsciiLemmas.{is_printable}
-use Rattle.ansi_columns.proofs.LinkedLawLemmas.{truncated-whole, truncated-plain}
-use Rattle.ansi_columns.proofs.ShownLawLemmas.{end_boundary, truncated-columns, truncated-within, padded-columns, padded-fills-plain}
+use Rattle.ansi_cells.specs.declared.shown.Alignment.{Alignment}
+use Rattle.ansi_clusters.specs.Columns.{columns, IsClusterBoundary}
+use Rattle.ansi_cells.specs.Fitted.{fitted}
+use Rattle.ansi_cells.specs.Shown.{has_tail, truncated_end, truncated, missing, before_text}
+use Rattle.ansi_clusters.proofs.AsciiLemmas.{is_printable}
+use Rattle.ansi_cells.proofs.LinkedLawLemmas.{truncated-whole, truncated-plain}
+use Rattle.ansi_cells.proofs.ShownLawLemmas.{end_boundary, truncated-columns, truncated-within, padded-columns, padded-fills-plain}
 
 list_all-tail : (b : Bool) (tail : List ℕ) → list_all is_printable tail ≡ true → list_all is_printable (if b then tail else []) ≡ true
 list_all-tail true tail all = all

@@ -6,19 +6,20 @@ use Rattle.ansi_items.specs.Plain.{plain, is_whole}
 use Rattle.ansi_style.specs.Rendition.{plain_style}
 use Rattle.ansi_style.specs.Styled.{StyledByte, styled, unstyled}
 use Rattle.ansi_style.proofs.StyledLemmas.{styled_byte, unstyled-styled}
-use Rattle.ansi_columns.specs.Addresses.{linked}
-use Rattle.ansi_columns.specs.Columns.{clusters, columns, bytes_of, IsClusterBoundary}
-use Rattle.ansi_columns.specs.Rows.{Row, row, row_bytes, row_width, row_screen, joined, blank_row, fitting_row, row_columns}
-use Rattle.ansi_columns.specs.Screens.{screen_of, screen, screen_slice, plain_blank}
-use Rattle.ansi_columns.specs.Shown.{fitting_end, blanks, without_style}
-use Rattle.ansi_columns.specs.Slices.{sliced_up_to}
-use Rattle.ansi_columns.proofs.BreakLawLemmas.{clusters-add_up}
-use Rattle.ansi_columns.proofs.LinkedLawLemmas.{linked_byte}
-use Rattle.ansi_columns.proofs.RowLemmas.{bytes-row, screen-row, row-columns}
+use Rattle.ansi_cells.specs.Addresses.{linked}
+use Rattle.ansi_clusters.specs.Columns.{clusters, columns, bytes_of, IsClusterBoundary, fitting_end}
+use Rattle.ansi_cells.specs.Rows.{Row, row, row_bytes, row_width, row_screen, joined, blank_row, fitting_row, row_columns}
+use Rattle.ansi_cells.specs.Screens.{screen_of, screen, screen_slice, plain_blank}
+use Rattle.ansi_clusters.specs.Lines.{blanks}
+use Rattle.ansi_cells.specs.Shown.{without_style}
+use Rattle.ansi_cells.specs.Slices.{sliced_up_to}
+use Rattle.ansi_cells.proofs.BreakLawLemmas.{clusters-add_up}
+use Rattle.ansi_cells.proofs.LinkedLawLemmas.{linked_byte}
+use Rattle.ansi_cells.proofs.RowLemmas.{bytes-row, screen-row, row-columns}
 use Rattle.ansi_columns.proofs.ScreenLawLemmas.{front-screen}
-use Rattle.ansi_columns.proofs.ScreenLemmas.{screen-blanks, screen_of-both, clusters-blanks}
-use Rattle.ansi_columns.proofs.ShownLawLemmas.{bytes_of-clusters, fitting_end-is}
-use Rattle.ansi_columns.proofs.SliceScreenLemmas.{slice-screen}
+use Rattle.ansi_cells.proofs.ScreenLemmas.{screen-blanks, screen_of-both, clusters-blanks}
+use Rattle.ansi_cells.proofs.ShownLawLemmas.{bytes_of-clusters, fitting_end-is}
+use Rattle.ansi_cells.proofs.SliceScreenLemmas.{slice-screen}
 
 abbrev byte_of : StyledByte → ℕ
 byte_of b = b.byte

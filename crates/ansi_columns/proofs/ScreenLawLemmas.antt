@@ -4,11 +4,11 @@ use Rattle.std.specs.Str.{IsUtf8}
 use Rattle.ansi_items.specs.Plain.{plain}
 use Rattle.ansi_items.proofs.Utf8Lemmas.{IsUtf8-plain}
 use Rattle.ansi_style.specs.Styled.{styled}
-use Rattle.ansi_columns.specs.Addresses.{linked}
-use Rattle.ansi_columns.specs.Columns.{clusters, columns, columns_of, bytes_of}
-use Rattle.ansi_columns.specs.Screens.{screen_of, screen}
-use Rattle.ansi_columns.proofs.ClusterLawLemmas.{clusters-front, columns-front}
-use Rattle.ansi_columns.proofs.ScreenLemmas.{length-screen_of, screen_of-append, screen_of-take}
+use Rattle.ansi_cells.specs.Addresses.{linked}
+use Rattle.ansi_clusters.specs.Columns.{clusters, columns, columns_of, bytes_of}
+use Rattle.ansi_cells.specs.Screens.{screen_of, screen}
+use Rattle.ansi_clusters.proofs.ClusterLawLemmas.{clusters-front, columns-front}
+use Rattle.ansi_cells.proofs.ScreenLemmas.{length-screen_of, screen_of-append, screen_of-take}
 
 -- a text has a column for each of its columns
 pub length-screen : (t : List ℕ) → length (screen t) ≡ columns (plain t)

@@ -8,21 +8,22 @@ use Rattle.ansi_items.specs.Plain.{plain, is_whole}
 use Rattle.ansi_items.proofs.JoinLemmas.{is_whole-append}
 use Rattle.ansi_search.proofs.SliceLemmas.{list_all-parts}
 use Rattle.ansi_style.specs.Styled.{styled}
-use Rattle.ansi_columns.specs.Addresses.{linked}
-use Rattle.ansi_columns.specs.declared.sides.Side.{Side}
-use Rattle.ansi_columns.specs.declared.sides.Side.TheVariants.{End, Start, Middle}
-use Rattle.ansi_columns.specs.Columns.{clusters, columns}
-use Rattle.ansi_columns.specs.Screens.{Column, screen, blank_for, shown_in, shown_from}
-use Rattle.ansi_columns.specs.Shown.{truncated, blanks}
-use Rattle.ansi_columns.specs.Sides.{fitting_tail, beside_tail, before_tail, is_cut_at_end, cut_before_end, truncated_at}
-use Rattle.ansi_columns.specs.Slices.{has_no_column, bytes_from, bytes_up_to, blanks_before, blanks_after, sliced_up_to}
-use Rattle.ansi_columns.proofs.AsciiLemmas.{is_printable, columns-printable}
-use Rattle.ansi_columns.proofs.KeptLemmas.{plain-append}
-use Rattle.ansi_columns.proofs.ScreenLemmas.{length-screen_of, shown_in-early, shown_in-late}
-use Rattle.ansi_columns.proofs.ShownLawLemmas.{blanks_are_printable, truncated-columns}
-use Rattle.ansi_columns.proofs.SliceLawLemmas.{sliced-whole}
-use Rattle.ansi_columns.proofs.SliceLemmas.{sliced-nothing}
-use Rattle.ansi_columns.proofs.SliceScreenLemmas.{plain_is, slice-screen}
+use Rattle.ansi_cells.specs.Addresses.{linked}
+use Rattle.ansi_cells.specs.declared.sides.Side.{Side}
+use Rattle.ansi_cells.specs.declared.sides.Side.TheVariants.{End, Start, Middle}
+use Rattle.ansi_clusters.specs.Columns.{clusters, columns}
+use Rattle.ansi_cells.specs.Screens.{Column, screen, blank_for, shown_in, shown_from}
+use Rattle.ansi_cells.specs.Shown.{truncated}
+use Rattle.ansi_clusters.specs.Lines.{blanks}
+use Rattle.ansi_cells.specs.Sides.{fitting_tail, beside_tail, before_tail, is_cut_at_end, cut_before_end, truncated_at}
+use Rattle.ansi_cells.specs.Slices.{has_no_column, bytes_from, bytes_up_to, blanks_before, blanks_after, sliced_up_to}
+use Rattle.ansi_clusters.proofs.AsciiLemmas.{is_printable, columns-printable}
+use Rattle.ansi_cells.proofs.KeptLemmas.{plain-append}
+use Rattle.ansi_cells.proofs.ScreenLemmas.{length-screen_of, shown_in-early, shown_in-late}
+use Rattle.ansi_cells.proofs.ShownLawLemmas.{blanks_are_printable, truncated-columns}
+use Rattle.ansi_cells.proofs.SliceLawLemmas.{sliced-whole}
+use Rattle.ansi_cells.proofs.SliceLemmas.{sliced-nothing}
+use Rattle.ansi_cells.proofs.SliceScreenLemmas.{plain_is, slice-screen}
 
 -- ---- a slice has no more columns than are asked for
 

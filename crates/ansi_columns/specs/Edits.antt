@@ -5,14 +5,14 @@ use Rattle.std.specs.Str.{IsUtf8}
 use Rattle.ansi_safe.specs.Cells.{cell}
 use Rattle.ansi_columns.specs.declared.edits.ColumnEdit.{ColumnEdit}
 use Rattle.ansi_columns.specs.declared.edits.ColumnEdit.TheVariants as edit
-use Rattle.ansi_columns.specs.declared.shown.Alignment.{Alignment}
-use Rattle.ansi_columns.specs.declared.sides.Side.{Side}
-use Rattle.ansi_columns.specs.Fitted.{fitted}
-use Rattle.ansi_columns.specs.Rows.{Row, cell_row, truncated_row_at, padded_row, fitted_row, sliced_row}
-use Rattle.ansi_columns.specs.Shown.{truncated, truncated_ending, padded, missing, closing, closed_cell, KeptStays}
-use Rattle.ansi_columns.specs.Sides.{is_cut_at_end, truncated_at}
-use Rattle.ansi_columns.specs.Slices.{sliced, is_sliced_stretch}
-use Rattle.ansi_columns.specs.Tabs.{has_tab, expanded}
+use Rattle.ansi_cells.specs.declared.shown.Alignment.{Alignment}
+use Rattle.ansi_cells.specs.declared.sides.Side.{Side}
+use Rattle.ansi_cells.specs.Fitted.{fitted}
+use Rattle.ansi_cells.specs.Rows.{Row, cell_row, truncated_row_at, padded_row, fitted_row, sliced_row}
+use Rattle.ansi_cells.specs.Shown.{truncated, truncated_ending, padded, missing, closing, closed_cell, KeptStays}
+use Rattle.ansi_cells.specs.Sides.{is_cut_at_end, truncated_at}
+use Rattle.ansi_cells.specs.Slices.{sliced, is_sliced_stretch}
+use Rattle.ansi_cells.specs.Tabs.{has_tab, expanded}
 
 -- an edit by columns, with its numbers and the bytes of its tail
 pub data Change : Type 0 where

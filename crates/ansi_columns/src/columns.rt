@@ -8,39 +8,35 @@ ghost use Rattle.std.specs.Str.{IsCharBoundary};
 ghost use Rattle.ansi_items.specs.Plain.{plain, has_escape, is_whole};
 ghost use Rattle.ansi_search.specs.Positions.{is_good_range};
 ghost use Rattle.ansi_style.specs.Written.{longest_close, longest_start_and_close};
-ghost use Rattle.ansi_columns.specs.Addresses.{address_at};
-ghost use Rattle.ansi_columns.specs.Columns.{columns, column_of, ShowsUpTo};
+ghost use Rattle.ansi_cells.specs.Addresses.{address_at};
+ghost use Rattle.ansi_clusters.specs.Columns.{columns, column_of, ShowsUpTo};
 ghost use Rattle.ansi_safe.specs.Cells.{cell, paragraph};
 ghost use Rattle.ansi_safe.specs.Links.{link_at, longest_link_end, IsClosed};
 ghost use Rattle.ansi_safe.specs.Safe.{is_safe};
 ghost use Rattle.ansi_safe.specs.declared.policy.Links.TheVariants.{Keep};
-ghost use Rattle.ansi_columns.specs.OneLine.{is_one_line};
-ghost use Rattle.ansi_columns.specs.Shown.{truncated_ending, truncated, KeptStays, missing, closing, padded};
-ghost use Rattle.ansi_columns.specs.Shown.{closed_cell};
-ghost use Rattle.ansi_columns.specs.Fitted.{fitted};
-ghost use Rattle.ansi_columns.specs.Sides.{is_cut_at_end, truncated_at};
-ghost use Rattle.ansi_columns.specs.Slices.{is_sliced_stretch, sliced_blanks, sliced};
-ghost use Rattle.ansi_columns.specs.Rows.{cell_row, row_screen, truncated_row, truncated_row_at};
-ghost use Rattle.ansi_columns.specs.Rows.{padded_row, fitted_row, line_screens, indented_screens};
-ghost use Rattle.ansi_columns.specs.Screens.{screen, sliced_screen};
-ghost use Rattle.ansi_columns.specs.Tabs.{has_tab, tabs, expanded};
-ghost use Rattle.ansi_columns.specs.Indents.{wrapped_with, IsWrappedWith};
-ghost use Rattle.ansi_columns.specs.Wrapped.{wrapped, IsWrapped};
+ghost use Rattle.ansi_cells.specs.OneLine.{is_one_line};
+ghost use Rattle.ansi_cells.specs.Shown.{truncated_ending, truncated, KeptStays, missing, closing, padded};
+ghost use Rattle.ansi_cells.specs.Shown.{closed_cell};
+ghost use Rattle.ansi_cells.specs.Fitted.{fitted};
+ghost use Rattle.ansi_cells.specs.Sides.{is_cut_at_end, truncated_at};
+ghost use Rattle.ansi_cells.specs.Slices.{is_sliced_stretch, sliced_blanks, sliced};
+ghost use Rattle.ansi_cells.specs.Rows.{cell_row, row_screen, truncated_row, truncated_row_at};
+ghost use Rattle.ansi_cells.specs.Rows.{padded_row, fitted_row, line_screens, indented_screens};
+ghost use Rattle.ansi_cells.specs.Screens.{screen, sliced_screen};
+ghost use Rattle.ansi_cells.specs.Tabs.{has_tab, tabs, expanded};
+ghost use Rattle.ansi_cells.specs.Indents.{wrapped_with, IsWrappedWith};
+ghost use Rattle.ansi_cells.specs.Wrapped.{wrapped, IsWrapped};
 
-use crate::addresses::link_at;
-use crate::fit::fit;
-use crate::fits::fitting_end;
-use crate::shown::{Alignment, pad, truncate};
-use crate::sides::{Truncation, truncate_with};
-use crate::slices::slice;
-use crate::tabs::expand_tabs;
-use crate::views::View;
-use crate::widths;
-use crate::wrap::indents::{AnsiWrapWith, Wrap, wrap_with};
-use crate::wrap::{AnsiWrap, wrap};
-use ansi_search::search::walk_to;
+use ansi_cells::addresses::link_at;
+use ansi_cells::fit::fit;
+pub use ansi_cells::measures::{column_of, fitting, width};
+use ansi_cells::shown::{Alignment, pad, truncate};
+use ansi_cells::sides::{Truncation, truncate_with};
+use ansi_cells::slices::slice;
+use ansi_cells::tabs::expand_tabs;
 use ansi_str::{AnsiRange, AnsiStr};
-use ansi_style::styles;
+use ansi_wraps::wrap::indents::{AnsiWrapWith, Wrap, wrap_with};
+use ansi_wraps::wrap::{AnsiWrap, wrap};
 use std::alloc::{AllocError, Global};
 use std::borrow::CowStr;
 
@@ -461,28 +457,3 @@ pub trait AnsiColumns: AnsiStr {
 }
 
 impl<T: AnsiStr> AnsiColumns for T {}
-
-/// Like [`AnsiColumns::ansi_width`].
-pub fn width(text: &str) -> usize
-    ensures { result ≡ columns (plain (cell text.now)) }
-{
-    widths::width(text, View::Shown)
-}
-
-/// Like [`AnsiColumns::ansi_fitting`].
-pub fn fitting(text: &str, width: usize) -> usize
-    ensures fits { ShowsUpTo text.now width result }
-    ensures boundary { IsCharBoundary (plain text.now) result }
-    ensures good_before { IsTrue (is_good_range (plain text.now) 0 (Some result)) }
-    ensures good_after { IsTrue (is_good_range (plain text.now) result None) }
-{
-    fitting_end(text, width, View::Shown).position
-}
-
-/// Like [`AnsiColumns::ansi_column_of`].
-pub fn column_of(text: &str, position: usize) -> Option<usize>
-    ensures { result ≡ column_of text.now position }
-{
-    let end = walk_to(&mut styles::plain_style(), text, position)?;
-    Some(widths::width(&text[..end], View::Shown))
-}

@@ -7,31 +7,15 @@
 //! depends on this one and calls it.
 #![tactic(auto)]
 
-pub mod addresses;
-pub mod bare;
-mod break_state;
 pub mod columns;
 pub mod edits;
-pub mod fit;
-mod fits;
-mod from_end;
 pub mod laws;
-mod letters;
-pub mod line_walks;
-pub mod lines;
-mod plain_cells;
-pub mod shown;
-pub mod sides;
-mod singles;
-pub mod slices;
-pub mod tabs;
-mod views;
-mod walks;
-mod widths;
-pub mod wrap;
 
+pub use ansi_cells::shown::Alignment;
+pub use ansi_cells::sides::{Side, Truncation};
+pub use ansi_cells::{addresses, bare, fit, shown, sides, slices, tabs};
+pub use ansi_clusters::{line_walks, lines};
+pub use ansi_wraps::wrap;
+pub use ansi_wraps::wrap::indents::Wrap;
 pub use columns::AnsiColumns;
 pub use edits::ColumnEdit;
-pub use shown::Alignment;
-pub use sides::{Side, Truncation};
-pub use wrap::indents::Wrap;

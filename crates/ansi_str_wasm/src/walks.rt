@@ -2,7 +2,7 @@
 ghost use Rattle.std.specs.Prelude.{IsUtf8};
 ghost use Rattle.ansi_str.specs.States.{rendition_of_numbers};
 ghost use Rattle.ansi_split.specs.Walks.{IsPartWalk};
-ghost use Rattle.ansi_columns.specs.LineWalks.{IsLineWalk};
+ghost use Rattle.ansi_clusters.specs.LineWalks.{IsLineWalk};
 ghost use Rattle.ansi_calls.specs.Columns.{BeginsLines, GivesNextLine};
 ghost use Rattle.ansi_calls.specs.Walks.{GivesNext, GivesNextPart};
 ghost use Rattle.ansi_calls.specs.Calls.{BeginsBlocks, BeginsParts, WritesStart, WritesClose};

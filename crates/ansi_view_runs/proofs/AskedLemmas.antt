@@ -9,11 +9,11 @@ use Rattle.std.proofs.lemmas.List.Elements.{All-from_recursion, recursion_from_A
 use Rattle.std.proofs.lemmas.List.Quantifiers.{position-Some}
 use Rattle.std.proofs.lemmas.Str.{IsUtf8-nil, IsUtf8-take, IsUtf8-drop, IsCharBoundary-before_ascii, IsCharBoundary-after_ascii}
 use Rattle.ansi_lines_runs.specs.Words.{is_colon, at_colon, field_number, end_of}
-use Rattle.ansi_columns.specs.declared.sides.Side.TheVariants.{End}
+use Rattle.ansi_cells.specs.declared.sides.Side.TheVariants.{End}
 use Rattle.ansi_columns.specs.Edits.{Expanded, Sliced, Truncated, Padded, Fitted}
-use Rattle.ansi_columns.specs.Shown.{closed_cell}
-use Rattle.ansi_columns.proofs.OneLineLemmas.{clean-safe}
-use Rattle.ansi_columns.proofs.TailLemmas.{shown-cell}
+use Rattle.ansi_cells.specs.Shown.{closed_cell}
+use Rattle.ansi_cells.proofs.OneLineLemmas.{clean-safe}
+use Rattle.ansi_cells.proofs.TailLemmas.{shown-cell}
 use Rattle.ansi_items.specs.Pieces.{pieces_of}
 use Rattle.ansi_safe.specs.declared.policy.Links.{Links}
 use Rattle.ansi_safe.specs.declared.policy.Links.TheVariants.{Keep, Remove}

@@ -13,12 +13,12 @@ use Rattle.ansi_safe.specs.Safe.{is_safe}
 use Rattle.ansi_safe.proofs.MadeLemmas.{whole-safe}
 use Rattle.ansi_safe.proofs.SafeLemmas.{AreGood-append, good_are_safe}
 use Rattle.ansi_columns.specs.Edits as columns
-use Rattle.ansi_columns.specs.OneLine.{is_one_line}
-use Rattle.ansi_columns.specs.Wrapped.{CarriedPart, wrapped}
-use Rattle.ansi_columns.proofs.CleanLineLemmas.{CleanLine, clean-wrapped}
+use Rattle.ansi_cells.specs.OneLine.{is_one_line}
+use Rattle.ansi_cells.specs.Wrapped.{CarriedPart, wrapped}
+use Rattle.ansi_wraps.proofs.CleanLineLemmas.{CleanLine, clean-wrapped}
 use Rattle.ansi_columns.proofs.EditLemmas.{shown-changed}
-use Rattle.ansi_columns.proofs.IndentLawLemmas.{ShutLine, shut-append, wrapped_are_shut}
-use Rattle.ansi_columns.proofs.OneLineLemmas.{IsClean, clean-safe, clean-one_line, safe_are_good, safe-paragraph}
+use Rattle.ansi_cells.proofs.IndentLawLemmas.{ShutLine, shut-append, wrapped_are_shut}
+use Rattle.ansi_cells.proofs.OneLineLemmas.{IsClean, clean-safe, clean-one_line, safe_are_good, safe-paragraph}
 use Rattle.ansi_columns.proofs.SequenceLemmas.{good-utf8}
 use Rattle.ansi_view_runs.specs.Edits.{Change, OnColumns, Wrapped, HasUtf8Tail, is_expansion, changed, changed_in_turn}
 use Rattle.ansi_view_runs.specs.SafeTexts.{IsSafeText}

@@ -3,8 +3,8 @@ use Rattle.std.proofs.Common.{◌≡◌, [], ◌∷◌, true, false, Some, None,
 use Rattle.std.specs.Prelude.{codes}
 use Rattle.ansi_safe.specs.declared.policy.Links.TheVariants.{Keep, Remove}
 use Rattle.ansi_safe.specs.declared.policy.Rest.TheVariants.{Drop, Show}
-use Rattle.ansi_columns.specs.declared.shown.Alignment.TheVariants.{Left}
-use Rattle.ansi_columns.specs.declared.sides.Side.TheVariants.{End}
+use Rattle.ansi_cells.specs.declared.shown.Alignment.TheVariants.{Left}
+use Rattle.ansi_cells.specs.declared.sides.Side.TheVariants.{End}
 use Rattle.ansi_columns.specs.Edits.{Expanded, Sliced, Truncated, Padded}
 use Rattle.ansi_view_runs.specs.Edits.{OnColumns, Wrapped}
 use Rattle.ansi_view_runs.specs.Lines.{lines}

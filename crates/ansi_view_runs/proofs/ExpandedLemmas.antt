@@ -26,13 +26,13 @@ use Rattle.ansi_safe.proofs.AllowedLemmas.{all_allowed-append}
 use Rattle.ansi_safe.proofs.CellLemmas.{plain_of-merged}
 use Rattle.ansi_safe.proofs.LinkLemmas.{link_through, link_of-pieces}
 use Rattle.ansi_safe.proofs.SafeLemmas.{AreGood, AreGood-append, good_stand, good_are_safe, good_text, spelled-one_text}
-use Rattle.ansi_columns.specs.Columns.{columns}
-use Rattle.ansi_columns.specs.Shown.{blanks}
-use Rattle.ansi_columns.specs.Tabs.{since_stop, to_next, run_expanded, pieces_expanded, expanded}
-use Rattle.ansi_columns.proofs.AsciiLemmas.{All-printable_is_ascii}
-use Rattle.ansi_columns.proofs.OneLineLemmas.{safe_are_good}
+use Rattle.ansi_clusters.specs.Columns.{columns}
+use Rattle.ansi_clusters.specs.Lines.{blanks}
+use Rattle.ansi_cells.specs.Tabs.{since_stop, to_next, run_expanded, pieces_expanded, expanded}
+use Rattle.ansi_clusters.proofs.AsciiLemmas.{All-printable_is_ascii}
+use Rattle.ansi_cells.proofs.OneLineLemmas.{safe_are_good}
 use Rattle.ansi_columns.proofs.SequenceLemmas.{good-utf8}
-use Rattle.ansi_columns.proofs.ShownLawLemmas.{blanks_are_printable}
+use Rattle.ansi_cells.proofs.ShownLawLemmas.{blanks_are_printable}
 use Rattle.ansi_view_runs.specs.SafeTexts.{IsSafeText}
 
 -- ---- the characters of a run: a TAB becomes blanks, and any other stays

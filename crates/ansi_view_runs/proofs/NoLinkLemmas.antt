@@ -32,17 +32,17 @@ use Rattle.ansi_safe.specs.Safe.{may_stay, is_safe}
 use Rattle.ansi_safe.proofs.CellLemmas.{plain-placed}
 use Rattle.ansi_safe.proofs.LinkLemmas.{link_of-fold, is_link-sgr}
 use Rattle.ansi_safe.proofs.SafeLemmas.{AreGood, good_stand}
-use Rattle.ansi_columns.specs.declared.shown.Alignment.{Alignment}
-use Rattle.ansi_columns.specs.declared.sides.Side.{Side}
-use Rattle.ansi_columns.specs.Columns.{columns}
+use Rattle.ansi_cells.specs.declared.shown.Alignment.{Alignment}
+use Rattle.ansi_cells.specs.declared.sides.Side.{Side}
+use Rattle.ansi_clusters.specs.Columns.{columns}
 use Rattle.ansi_columns.specs.Edits as columns
-use Rattle.ansi_columns.specs.Tabs.{since_stop, run_expanded, expanded}
-use Rattle.ansi_columns.specs.Lines.{lines}
-use Rattle.ansi_columns.specs.Shown.{has_tail, truncated_end, truncated, missing, before_text, blanks, padded, closing, closed_cell}
-use Rattle.ansi_columns.specs.Sides.{beside_tail, before_tail, is_cut_at_end, cut_before_end, truncated_at}
-use Rattle.ansi_columns.specs.Slices.{has_no_column, bytes_from, bytes_up_to, blanks_before, blanks_after, opened_at, pen_open, slice_opening, slice_middle, slice_closing, sliced_up_to}
-use Rattle.ansi_columns.specs.Wrapped.{CarriedPart, pen_end, line_over, lines_over, lent_lines, wrapped}
-use Rattle.ansi_columns.proofs.OneLineLemmas.{safe_are_good}
+use Rattle.ansi_cells.specs.Tabs.{since_stop, run_expanded, expanded}
+use Rattle.ansi_clusters.specs.Lines.{lines, blanks}
+use Rattle.ansi_cells.specs.Shown.{has_tail, truncated_end, truncated, missing, before_text, padded, closing, closed_cell}
+use Rattle.ansi_cells.specs.Sides.{beside_tail, before_tail, is_cut_at_end, cut_before_end, truncated_at}
+use Rattle.ansi_cells.specs.Slices.{has_no_column, bytes_from, bytes_up_to, blanks_before, blanks_after, opened_at, pen_open, slice_opening, slice_middle, slice_closing, sliced_up_to}
+use Rattle.ansi_cells.specs.Wrapped.{CarriedPart, pen_end, line_over, lines_over, lent_lines, wrapped}
+use Rattle.ansi_cells.proofs.OneLineLemmas.{safe_are_good}
 use Rattle.ansi_view_runs.specs.Edits.{Change, OnColumns, Wrapped, changed}
 use Rattle.ansi_view_runs.proofs.ExpandedLemmas.{expanded_pieces, expanded-good, spelled-expanded}
 

@@ -13,7 +13,7 @@ use Rattle.ansi_safe.specs.declared.policy.Links.TheVariants.{Keep, Remove}
 use Rattle.ansi_safe.specs.Safe.{may_stay, is_safe}
 use Rattle.ansi_safe.proofs.MadeLemmas.{whole-safe}
 use Rattle.ansi_columns.specs.Edits as columns
-use Rattle.ansi_columns.specs.Shown.{closed_cell}
+use Rattle.ansi_cells.specs.Shown.{closed_cell}
 use Rattle.ansi_view_runs.specs.Edits.{Change, OnColumns, Wrapped, HasUtf8Tail, HasTailBy, changed, changed_in_turn}
 use Rattle.ansi_view_runs.specs.Lines.{Line, first_line, first_lines, lines}
 use Rattle.ansi_view_runs.specs.SafeTexts.{IsSafeText}

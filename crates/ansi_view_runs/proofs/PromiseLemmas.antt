@@ -14,9 +14,9 @@ use Rattle.ansi_safe.specs.Cells.{paragraph}
 use Rattle.ansi_safe.specs.Safe.{is_allowed, all_allowed}
 use Rattle.ansi_safe.proofs.SafeLemmas.{AreGood}
 use Rattle.ansi_columns.specs.Edits as columns
-use Rattle.ansi_columns.specs.Rows.{Row, row, cell_row, row_screen}
-use Rattle.ansi_columns.specs.Tabs.{expanded}
-use Rattle.ansi_columns.proofs.OneLineLemmas.{clean-one_line, safe_are_good}
+use Rattle.ansi_cells.specs.Rows.{Row, row, cell_row, row_screen}
+use Rattle.ansi_cells.specs.Tabs.{expanded}
+use Rattle.ansi_cells.proofs.OneLineLemmas.{clean-one_line, safe_are_good}
 use Rattle.ansi_view_runs.specs.Edits.{Change, OnColumns, Wrapped, HasUtf8Tail, HasTailBy, changed, changed_in_turn}
 use Rattle.ansi_view_runs.specs.Lines.{Line, first_line, first_lines, lines}
 use Rattle.ansi_view_runs.specs.Promise.{changed_rows, rows_in_turn, shown_rows, has_no_line_end, IsViewedLine, AreViewedLines, IsViewed}

@@ -12,17 +12,17 @@ use Rattle.ansi_safe.specs.Cells.{cell, paragraph, placed, stays_in, piece_stays
 use Rattle.ansi_safe.specs.Safe.{all_allowed}
 use Rattle.ansi_safe.proofs.CellLemmas.{placed-stays, placed_stays}
 use Rattle.ansi_columns.specs.Edits as columns
-use Rattle.ansi_columns.specs.Lines as wrap
-use Rattle.ansi_columns.specs.Rows.{Row, row, cell_row, row_range, row_screen}
-use Rattle.ansi_columns.specs.Screens.{screen}
-use Rattle.ansi_columns.specs.Wrapped.{CarriedPart, wrapped}
-use Rattle.ansi_columns.proofs.CleanLineLemmas.{CleanLine, clean-wrapped}
+use Rattle.ansi_clusters.specs.Lines as wrap
+use Rattle.ansi_cells.specs.Rows.{Row, row, cell_row, row_range, row_screen}
+use Rattle.ansi_cells.specs.Screens.{screen}
+use Rattle.ansi_cells.specs.Wrapped.{CarriedPart, wrapped}
+use Rattle.ansi_wraps.proofs.CleanLineLemmas.{CleanLine, clean-wrapped}
 use Rattle.ansi_columns.proofs.EditLemmas.{clean-stays, expanded-shown, cell_row-shown, shown-changed, row-changed}
-use Rattle.ansi_columns.proofs.IndentLawLemmas.{ShutLine, wrapped_are_shut}
-use Rattle.ansi_columns.proofs.OneLineLemmas.{safe-paragraph}
-use Rattle.ansi_columns.proofs.RowLemmas.{bytes-row, screen-row, row-lines}
+use Rattle.ansi_cells.proofs.IndentLawLemmas.{ShutLine, wrapped_are_shut}
+use Rattle.ansi_cells.proofs.OneLineLemmas.{safe-paragraph}
+use Rattle.ansi_cells.proofs.RowLemmas.{bytes-row, screen-row, row-lines}
 use Rattle.ansi_columns.proofs.SequenceLemmas.{good-utf8}
-use Rattle.ansi_columns.proofs.TailLemmas.{IsShown}
+use Rattle.ansi_cells.proofs.TailLemmas.{IsShown}
 use Rattle.ansi_view_runs.specs.Edits.{Change, OnColumns, Wrapped, HasUtf8Tail, changed}
 use Rattle.ansi_view_runs.specs.Promise.{changed_rows}
 

@@ -6,9 +6,9 @@ use Rattle.std.proofs.lemmas.Grind.{flat_map-append}
 use Rattle.std.proofs.lemmas.List.{map-append, take_all}
 use Rattle.ansi_columns.specs.declared.edits.ColumnEdit.{ColumnEdit}
 use Rattle.ansi_columns.specs.Edits as columns
-use Rattle.ansi_columns.specs.Indents.{wrapped_with}
-use Rattle.ansi_columns.specs.Wrapped.{CarriedPart, wrapped}
-use Rattle.ansi_columns.proofs.IndentLemmas.{wrapped_with-bytes}
+use Rattle.ansi_cells.specs.Indents.{wrapped_with}
+use Rattle.ansi_cells.specs.Wrapped.{CarriedPart, wrapped}
+use Rattle.ansi_cells.proofs.IndentLemmas.{wrapped_with-bytes}
 use Rattle.ansi_lines_runs.specs.Runs.{words_of}
 use Rattle.ansi_view_runs.specs.declared.edits.Stage.{Stage}
 use Rattle.ansi_view_runs.specs.Edits.{Change, OnColumns, Wrapped, changed, changed_in_turn}

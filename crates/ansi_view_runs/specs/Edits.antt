@@ -4,8 +4,8 @@ use Rattle.std.specs.List.{flat_map}
 use Rattle.ansi_safe.specs.declared.policy.Links.{Links}
 use Rattle.ansi_safe.specs.Safe.{is_safe}
 use Rattle.ansi_columns.specs.Edits as columns
-use Rattle.ansi_columns.specs.Shown.{closed_cell}
-use Rattle.ansi_columns.specs.Wrapped.{wrapped}
+use Rattle.ansi_cells.specs.Shown.{closed_cell}
+use Rattle.ansi_cells.specs.Wrapped.{wrapped}
 use Rattle.ansi_view_runs.specs.declared.edits.LineEdit.{LineEdit}
 use Rattle.ansi_view_runs.specs.declared.edits.LineEdit.TheVariants as edit
 

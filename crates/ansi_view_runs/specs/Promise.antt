@@ -7,10 +7,10 @@ use Rattle.ansi_safe.specs.Cells.{paragraph}
 use Rattle.ansi_safe.specs.Links.{IsClosed}
 use Rattle.ansi_safe.specs.Safe.{is_safe}
 use Rattle.ansi_columns.specs.Edits as columns
-use Rattle.ansi_columns.specs.Lines as wrap
-use Rattle.ansi_columns.specs.Rows.{Row, row, cell_row, row_bytes, row_range, row_screen}
-use Rattle.ansi_columns.specs.Screens.{screen}
-use Rattle.ansi_columns.specs.Tabs.{expanded}
+use Rattle.ansi_clusters.specs.Lines as wrap
+use Rattle.ansi_cells.specs.Rows.{Row, row, cell_row, row_bytes, row_range, row_screen}
+use Rattle.ansi_cells.specs.Screens.{screen}
+use Rattle.ansi_cells.specs.Tabs.{expanded}
 use Rattle.ansi_view_runs.specs.Edits.{Change, OnColumns, Wrapped}
 use Rattle.ansi_view_runs.specs.Lines.{Line, lines}
 use Rattle.ansi_view_runs.specs.SafeTexts.{IsSafeText}

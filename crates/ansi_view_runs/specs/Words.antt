@@ -7,8 +7,8 @@ use Rattle.ansi_safe.specs.declared.policy.Links.TheVariants.{Keep, Remove}
 use Rattle.ansi_safe.specs.declared.policy.Rest.TheVariants.{Drop, Show}
 use Rattle.ansi_safe.specs.Sanitized.{sanitized}
 use Rattle.ansi_lines_runs.specs.Words.{at_colon, field_number, end_of}
-use Rattle.ansi_columns.specs.declared.shown.Alignment.TheVariants.{Left}
-use Rattle.ansi_columns.specs.declared.sides.Side.TheVariants.{End}
+use Rattle.ansi_cells.specs.declared.shown.Alignment.TheVariants.{Left}
+use Rattle.ansi_cells.specs.declared.sides.Side.TheVariants.{End}
 use Rattle.ansi_columns.specs.Edits.{Expanded, Sliced, Truncated, Padded}
 use Rattle.ansi_view_runs.specs.Edits.{Change, OnColumns, Wrapped}
 use Rattle.ansi_view_runs.specs.Views.{Work, with_safe_tails}

@@ -5,7 +5,7 @@ ghost use Rattle.std.specs.Prelude.{◌≡◌, ℕ, List, [], false, All, IsTrue
 ghost use Rattle.std.specs.Str.{IsUtf8};
 ghost use Rattle.ansi_safe.specs.Links.{IsClosed};
 ghost use Rattle.ansi_safe.specs.Safe.{is_safe};
-ghost use Rattle.ansi_columns.specs.OneLine.{is_one_line};
+ghost use Rattle.ansi_cells.specs.OneLine.{is_one_line};
 ghost use Rattle.ansi_view_runs.specs.declared.view.View.{View};
 ghost use Rattle.ansi_view_runs.specs.Edits.{Change, HasTailBy, HasUtf8Tail, is_expansion};
 ghost use Rattle.ansi_view_runs.specs.Edits.{changed, changed_in_turn};

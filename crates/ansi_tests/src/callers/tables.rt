@@ -5,7 +5,7 @@ ghost use Rattle.std.specs.Int.{is_in_range};
 ghost use Rattle.std.specs.List.{list_all};
 ghost use Rattle.ansi_str.specs.Plain.{plain};
 ghost use Rattle.ansi_safe.specs.Cells.{cell};
-ghost use Rattle.ansi_columns.specs.Columns.{columns};
+ghost use Rattle.ansi_clusters.specs.Columns.{columns};
 
 use ansi_columns::fit::fit;
 use ansi_columns::{Alignment, laws};

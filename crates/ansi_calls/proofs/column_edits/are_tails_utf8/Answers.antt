@@ -1,6 +1,6 @@
 use Rattle.std.proofs.Common.{◌∙◌, sym}
 use Rattle.ansi_calls.specs.ColumnSteps.{tail_of}
-use Rattle.ansi_calls.proofs.StepLemmas.{text-good, text-bad}
+use Rattle.ansi_text_calls.proofs.StepLemmas.{text-good, text-bad}
 use Rattle.ansi_calls.proofs.column_edits.are_tails_utf8.Goals as goal
 
 pub returns-in_default : goal.returns-in_default

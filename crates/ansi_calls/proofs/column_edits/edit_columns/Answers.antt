@@ -1,6 +1,6 @@
 use Rattle.std.proofs.Common.{inl, refl, sym, ◌∙◌}
 use Rattle.ansi_calls.specs.ColumnSteps.{tails_of}
-use Rattle.ansi_calls.proofs.Utf8Lemmas.{OnUtf8-all, OnUtf8-not}
+use Rattle.ansi_text_calls.proofs.Utf8Lemmas.{OnUtf8-all, OnUtf8-not}
 use Rattle.ansi_calls.proofs.column_edits.edit_columns.Goals as goal
 
 -- a tail isn't UTF-8

@@ -1,7 +1,7 @@
-use Rattle.ansi_columns.specs.Tabs.{has_tab}
-use Rattle.ansi_calls.specs.Answers.{no}
+use Rattle.ansi_cells.specs.Tabs.{has_tab}
+use Rattle.ansi_text_calls.specs.Answers.{no}
 use Rattle.ansi_calls.specs.Columns.{GivesExpanded}
-use Rattle.ansi_calls.proofs.Utf8Lemmas.{Gives-made}
+use Rattle.ansi_text_calls.proofs.Utf8Lemmas.{Gives-made}
 use Rattle.ansi_calls.proofs.columns.expand_text.Goals as goal
 
 -- a text without a TAB is written without an allocation

@@ -1,6 +1,6 @@
 use Rattle.std.proofs.Common.{◌≡◌, List, ℕ, subst}
 use Rattle.std.specs.Option.{MatchOption}
-use Rattle.ansi_calls.specs.Answers.{IsWritten}
+use Rattle.ansi_text_calls.specs.Answers.{IsWritten}
 use Rattle.ansi_calls.proofs.columns.fit_at_once.Goals as goal
 
 pub returns : goal.returns

@@ -1,11 +1,11 @@
 use Rattle.std.proofs.Common.{◌≡◌, false, IfOk, Some, inl, inr, refl, sym, ◌∙◌, ap, subst}
 use Rattle.std.proofs.lemmas.Bool.{false≢true}
 use Rattle.ansi_safe.specs.Cells.{cell}
-use Rattle.ansi_columns.specs.Fitted.{fitted}
-use Rattle.ansi_columns.specs.Shown.{shown_bytes}
-use Rattle.ansi_calls.specs.Answers.{no, IsWritten}
+use Rattle.ansi_cells.specs.Fitted.{fitted}
+use Rattle.ansi_cells.specs.Shown.{shown_bytes}
+use Rattle.ansi_text_calls.specs.Answers.{no, IsWritten}
 use Rattle.ansi_calls.specs.Columns.{GivesFitted}
-use Rattle.ansi_calls.proofs.Utf8Lemmas.{Gives-shown}
+use Rattle.ansi_calls.proofs.ShownLemmas.{Gives-shown}
 use Rattle.ansi_calls.proofs.columns.fit_text.Goals as goal
 
 -- a cell is written, or there is no memory for it

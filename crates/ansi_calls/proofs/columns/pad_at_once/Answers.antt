@@ -1,7 +1,7 @@
 use Rattle.std.proofs.Common.{◌≡◌, List, ℕ, subst, ◌∙◌, ap, append-nil}
 use Rattle.std.specs.Option.{MatchOption}
-use Rattle.ansi_columns.specs.Shown.{between_blanks}
-use Rattle.ansi_calls.specs.Answers.{IsWritten}
+use Rattle.ansi_cells.specs.Shown.{between_blanks}
+use Rattle.ansi_text_calls.specs.Answers.{IsWritten}
 use Rattle.ansi_calls.proofs.columns.pad_at_once.Goals as goal
 
 pub returns : goal.returns

@@ -2,12 +2,12 @@ use Rattle.std.proofs.Common.{◌≡◌, Some, subst, [], length, ◌&&◌, ◌=
 use Rattle.std.proofs.lemmas.Bool.{and_parts, eqb-true}
 use Rattle.std.proofs.lemmas.List.{nil_from_length}
 use Rattle.std.proofs.lemmas.Result.{IfOk-weaker}
-use Rattle.ansi_columns.specs.Shown.{missing, closing}
+use Rattle.ansi_cells.specs.Shown.{missing, closing}
 use Rattle.ansi_safe.specs.Cells.{cell, is_cell}
 use Rattle.ansi_safe.proofs.CellTextLemmas.{cell-stays}
-use Rattle.ansi_calls.specs.Answers.{no}
+use Rattle.ansi_text_calls.specs.Answers.{no}
 use Rattle.ansi_calls.specs.Columns.{GivesPadded}
-use Rattle.ansi_calls.proofs.Utf8Lemmas.{Gives-shown}
+use Rattle.ansi_calls.proofs.ShownLemmas.{Gives-shown}
 use Rattle.ansi_calls.proofs.columns.pad_text.Goals as goal
 
 -- a cell that lacks no blank and leaves nothing open is written without an allocation

@@ -1,12 +1,12 @@
 use Rattle.std.proofs.Common.{◌≡◌, ◌&&◌, Some, IsTrue}
 use Rattle.std.proofs.lemmas.Bool.{and_parts}
 use Rattle.std.proofs.lemmas.Result.{IfOk-weaker}
-use Rattle.ansi_columns.specs.Slices.{is_sliced_stretch}
+use Rattle.ansi_cells.specs.Slices.{is_sliced_stretch}
 use Rattle.ansi_safe.specs.Cells.{cell, is_cell}
 use Rattle.ansi_safe.proofs.CellTextLemmas.{cell-stays}
-use Rattle.ansi_calls.specs.Answers.{no}
+use Rattle.ansi_text_calls.specs.Answers.{no}
 use Rattle.ansi_calls.specs.Columns.{GivesSliced}
-use Rattle.ansi_calls.proofs.Utf8Lemmas.{Gives-slice}
+use Rattle.ansi_calls.proofs.ShownLemmas.{Gives-slice}
 use Rattle.ansi_calls.proofs.columns.slice_text.Goals as goal
 
 -- a stretch of a cell is written without an allocation

@@ -1,8 +1,8 @@
 use Rattle.std.proofs.Common.{◌≡◌, List, ℕ, ◌++◌, subst, ◌∙◌}
 use Rattle.std.specs.Option.{MatchOption}
-use Rattle.ansi_columns.specs.declared.shown.Alignment.TheVariants.{Left}
-use Rattle.ansi_calls.specs.Answers.{IsWritten}
-use Rattle.ansi_columns.proofs.ShownLemmas.{between-none}
+use Rattle.ansi_cells.specs.declared.shown.Alignment.TheVariants.{Left}
+use Rattle.ansi_text_calls.specs.Answers.{IsWritten}
+use Rattle.ansi_cells.proofs.ShownLemmas.{between-none}
 use Rattle.ansi_calls.proofs.columns.truncate_at_once.Goals as goal
 
 pub returns : goal.returns

@@ -2,13 +2,13 @@ use Rattle.std.proofs.Common.{◌≡◌, [], length, ◌&&◌, ◌==◌, IsTrue,
 use Rattle.std.proofs.lemmas.Bool.{and_parts, eqb-true, false≢true}
 use Rattle.std.proofs.lemmas.List.{nil_from_length}
 use Rattle.std.proofs.lemmas.Result.{IfOk-weaker}
-use Rattle.ansi_columns.specs.Shown.{truncated, truncated_ending, closing, closed_cell, KeptStays, shown_bytes}
+use Rattle.ansi_cells.specs.Shown.{truncated, truncated_ending, closing, closed_cell, KeptStays, shown_bytes}
 use Rattle.ansi_safe.specs.Cells.{cell, is_cell}
 use Rattle.ansi_safe.proofs.CellTextLemmas.{cell-stays}
-use Rattle.ansi_columns.proofs.KeptLemmas.{kept-stays}
-use Rattle.ansi_calls.specs.Answers.{no}
+use Rattle.ansi_cells.proofs.KeptLemmas.{kept-stays}
+use Rattle.ansi_text_calls.specs.Answers.{no}
 use Rattle.ansi_calls.specs.Columns.{GivesTruncated, is_closed_cell}
-use Rattle.ansi_calls.proofs.Utf8Lemmas.{Gives-shown, Gives-failed}
+use Rattle.ansi_calls.proofs.ShownLemmas.{Gives-shown, Gives-failed}
 use Rattle.ansi_calls.proofs.columns.truncate_text.Goals as goal
 
 -- a cell after which nothing is written is written without an allocation, if the tail is a closed cell

@@ -1,8 +1,8 @@
 use Rattle.std.proofs.Common.{true, sym, ◌∙◌, subst}
 use Rattle.std.proofs.lemmas.Bool.{true≢false}
-use Rattle.ansi_calls.specs.Answers.{no}
+use Rattle.ansi_text_calls.specs.Answers.{no}
 use Rattle.ansi_calls.specs.Columns.{GivesTruncatedAt}
-use Rattle.ansi_calls.proofs.Utf8Lemmas.{Gives-made}
+use Rattle.ansi_text_calls.proofs.Utf8Lemmas.{Gives-made}
 use Rattle.ansi_calls.proofs.columns.truncate_text_at.Goals as goal
 
 -- a text is written, or there is no memory for it

@@ -3,9 +3,9 @@ use Rattle.std.proofs.lemmas.List.{length-map}
 use Rattle.std.specs.declared.alloc.AllocError.{AllocError}
 use Rattle.ansi_safe.specs.Links.{longest_link_end}
 use Rattle.ansi_style.specs.Written.{longest_start_and_close}
-use Rattle.ansi_columns.specs.Wrapped.{CarriedPart}
-use Rattle.ansi_calls.specs.Lists.{AreCopied}
-use Rattle.ansi_calls.proofs.GivenLemmas.{joined_texts, given-fits, lent-drained}
+use Rattle.ansi_cells.specs.Wrapped.{CarriedPart}
+use Rattle.ansi_text_calls.specs.Lists.{AreCopied}
+use Rattle.ansi_text_calls.proofs.GivenLemmas.{joined_texts, given-fits, lent-drained}
 use Rattle.ansi_calls.proofs.LineListLemmas.{bare-wrapped}
 use Rattle.ansi_calls.proofs.lines.copy_bare_lines.Goals as goal
 

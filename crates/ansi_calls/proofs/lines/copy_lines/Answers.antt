@@ -1,12 +1,12 @@
 use Rattle.std.proofs.Common.{◌∙◌, ◌+◌, ◌∷◌, [], ◌++◌, length, take, drop, map, refl, sym, ap, arith, append_assoc, length-append}
 use Rattle.std.proofs.lemmas.List.{length_push, length-map, map-append}
 use Rattle.ansi_items.specs.Plain.{plain}
-use Rattle.ansi_columns.specs.Columns.{clusters, lined}
-use Rattle.ansi_columns.specs.Lines.{lines, place_line, shown_lines}
+use Rattle.ansi_clusters.specs.Columns.{clusters, lined}
+use Rattle.ansi_clusters.specs.Lines.{lines, place_line, shown_lines}
 use Rattle.ansi_columns.proofs.FirstFitLawLemmas.{first_fit-unique}
-use Rattle.ansi_columns.proofs.FirstFitLemmas.{lines-first_fit}
+use Rattle.ansi_clusters.proofs.FirstFitLemmas.{lines-first_fit}
 use Rattle.ansi_calls.specs.Columns.{line_entry}
-use Rattle.ansi_calls.proofs.GivenLemmas.{written-more}
+use Rattle.ansi_text_calls.proofs.GivenLemmas.{written-more}
 use Rattle.ansi_calls.proofs.LineListLemmas.{few_entries}
 use Rattle.ansi_calls.proofs.lines.copy_lines.Goals as goal
 

@@ -1,6 +1,6 @@
 use Rattle.std.proofs.Common.{◌≡◌, ◌≤◌, ◌++◌, ℕ, List, length, drop, map}
 use Rattle.ansi_items.specs.Plain.{plain}
-use Rattle.ansi_columns.specs.Lines.{shown_lines}
+use Rattle.ansi_clusters.specs.Lines.{shown_lines}
 use Rattle.ansi_calls.specs.Columns.{line_entry}
 use Rattle.ansi_calls.proofs.lines.copy_lines.Given as goal
 

@@ -3,10 +3,10 @@ use Rattle.std.specs.Prelude.{bytes_eq}
 use Rattle.std.proofs.lemmas.Slice.Eq.{bytes_eq-Decides}
 use Rattle.ansi_str.specs.Plain.{has_escape}
 use Rattle.ansi_safe.specs.Cells.{paragraph}
-use Rattle.ansi_columns.specs.Wrapped.{CarriedPart}
-use Rattle.ansi_calls.specs.Lists.{ends_from, GivesAll}
+use Rattle.ansi_cells.specs.Wrapped.{CarriedPart}
+use Rattle.ansi_text_calls.specs.Lists.{ends_from, GivesAll}
 use Rattle.ansi_calls.specs.Columns.{GivesWrapped}
-use Rattle.ansi_calls.proofs.GivenLemmas.{joined_texts}
+use Rattle.ansi_text_calls.proofs.GivenLemmas.{joined_texts}
 use Rattle.ansi_calls.proofs.lines.wrap.Goals as goal
 
 neither : (a b : Bool) → true ≡ not (a || not b) → (a ≡ false) × (b ≡ true)

@@ -1,8 +1,8 @@
 use Rattle.std.proofs.Common.{List, ℕ, true, map, ap, subst}
-use Rattle.ansi_columns.specs.Wrapped.{CarriedPart}
-use Rattle.ansi_calls.specs.Lists.{ends_from, GivesAll}
+use Rattle.ansi_cells.specs.Wrapped.{CarriedPart}
+use Rattle.ansi_text_calls.specs.Lists.{ends_from, GivesAll}
 use Rattle.ansi_calls.specs.Columns.{GivesIndented}
-use Rattle.ansi_calls.proofs.GivenLemmas.{joined_texts}
+use Rattle.ansi_text_calls.proofs.GivenLemmas.{joined_texts}
 use Rattle.ansi_calls.proofs.lines.write_indented.Goals as goal
 
 pub returns : goal.returns

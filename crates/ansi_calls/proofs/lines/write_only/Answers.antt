@@ -1,9 +1,9 @@
 use Rattle.std.proofs.Common.{◌≡◌, ℕ, ◌+◌, ◌<◌, List, [], ◌∷◌, ◌++◌, length, map, flat_map, slice_set, drop, inl, inr, append-nil, refl, sym, ◌∙◌, ap, ap₂, subst, arith}
 use Rattle.std.proofs.lemmas.Bool.Decides.{nat_tests}
-use Rattle.ansi_columns.specs.Wrapped.{CarriedPart}
-use Rattle.ansi_calls.specs.Answers.{IsWritten}
-use Rattle.ansi_calls.specs.Lists.{ends_from, AreWritten}
-use Rattle.ansi_calls.specs.declared.answers.Answer.{Answer}
+use Rattle.ansi_cells.specs.Wrapped.{CarriedPart}
+use Rattle.ansi_text_calls.specs.Answers.{IsWritten}
+use Rattle.ansi_text_calls.specs.Lists.{ends_from, AreWritten}
+use Rattle.ansi_text_calls.specs.declared.answers.Answer.{Answer}
 use Rattle.ansi_calls.proofs.lines.write_only.Goals as goal
 
 set-first : (es : List ℕ) (n : ℕ) → 0 < length es → slice_set es 0 n ≡ n ∷ drop 1 es

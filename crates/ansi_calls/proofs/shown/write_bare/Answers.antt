@@ -1,9 +1,10 @@
 use Rattle.std.proofs.Common.{◌≡◌, ◌≤◌, ◌+◌, ◌-◌, ◌++◌, inl, length, take, drop, sym, ◌∙◌, ap, subst, arith, append_assoc}
 use Rattle.std.specs.Str.{byte}
 use Rattle.std.proofs.lemmas.List.{length-replicate}
-use Rattle.ansi_columns.specs.Shown.{blanks, between_blanks}
-use Rattle.ansi_calls.specs.Answers.{done}
-use Rattle.ansi_calls.proofs.GivenLemmas.{put-begin, put-more, put-end}
+use Rattle.ansi_clusters.specs.Lines.{blanks}
+use Rattle.ansi_cells.specs.Shown.{between_blanks}
+use Rattle.ansi_text_calls.specs.Answers.{done}
+use Rattle.ansi_text_calls.proofs.GivenLemmas.{put-begin, put-more, put-end}
 use Rattle.ansi_calls.proofs.shown.write_bare.Goals as goal
 
 pub returns : goal.returns

@@ -4,8 +4,8 @@ use Rattle.std.specs.Cow.{cow_str_bytes}
 use Rattle.std.proofs.lemmas.List.{length-replicate}
 use Rattle.ansi_style.specs.States.{rendition_of}
 use Rattle.ansi_style.specs.Written.{close}
-use Rattle.ansi_columns.specs.Shown.{blanks}
-use Rattle.ansi_calls.proofs.GivenLemmas.{put-begin, put-more, put-end}
+use Rattle.ansi_clusters.specs.Lines.{blanks}
+use Rattle.ansi_text_calls.proofs.GivenLemmas.{put-begin, put-more, put-end}
 use Rattle.ansi_calls.proofs.shown.write_parts.Goals as goal
 
 -- the parts as they are written, and as they are joined

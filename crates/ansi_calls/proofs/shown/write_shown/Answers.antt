@@ -3,10 +3,10 @@ use Rattle.std.proofs.lemmas.Bool.{eqb-true}
 use Rattle.std.proofs.lemmas.List.{nil_from_length}
 use Rattle.ansi_style.specs.States.{rendition_of}
 use Rattle.ansi_style.specs.Written.{close}
-use Rattle.ansi_columns.specs.declared.shown.Alignment.{Alignment}
-use Rattle.ansi_columns.specs.Shown.{between_blanks}
-use Rattle.ansi_columns.proofs.ShownLemmas.{between-none}
-use Rattle.ansi_calls.specs.Answers.{IsWritten}
+use Rattle.ansi_cells.specs.declared.shown.Alignment.{Alignment}
+use Rattle.ansi_cells.specs.Shown.{between_blanks}
+use Rattle.ansi_cells.proofs.ShownLemmas.{between-none}
+use Rattle.ansi_text_calls.specs.Answers.{IsWritten}
 use Rattle.ansi_calls.proofs.shown.write_shown.Goals as goal
 
 -- nothing is written before and after the text

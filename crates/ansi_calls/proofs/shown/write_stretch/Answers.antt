@@ -1,5 +1,5 @@
 use Rattle.std.proofs.Common.{◌≤◌, ◌+◌, ◌++◌, length, ◌∙◌, ap₂, arith, append_assoc}
-use Rattle.ansi_calls.proofs.GivenLemmas.{put-begin, put-more, put-end}
+use Rattle.ansi_text_calls.proofs.GivenLemmas.{put-begin, put-more, put-end}
 use Rattle.ansi_calls.proofs.shown.write_stretch.Goals as goal
 
 -- the parts, one after another

@@ -1,4 +1,4 @@
-use Rattle.ansi_columns.proofs.EditWrapLemmas.{lends-borrowed, lends-owned, edited-bytes, edited-first_fit, edited-lent, edited-owned, edited-safe, edited-one_line, edited-closed, edited-screen}
+use Rattle.ansi_wraps.proofs.EditWrapLemmas.{lends-borrowed, lends-owned, edited-bytes, edited-first_fit, edited-lent, edited-owned, edited-safe, edited-one_line, edited-closed, edited-screen}
 use Rattle.ansi_columns.proofs.edits.edit_and_wrap.Goals as goal
 
 pub returns-clause-first_fit : goal.returns-clause-first_fit

@@ -2,11 +2,10 @@ use Rattle.std.proofs.Common.{◌≡◌, refl, sym, ◌∙◌}
 use Rattle.std.specs.Cow.{cow_str_bytes}
 use Rattle.std.proofs.lemmas.Result.{IfOk-weaker}
 use Rattle.ansi_columns.specs.Edits.{changes_of, edited, edited_row}
-use Rattle.ansi_columns.specs.Rows.{row_screen}
-use Rattle.ansi_columns.specs.Screens.{screen}
-use Rattle.ansi_columns.proofs.EditLemmas.{if_ok_both, closed-bytes, closed-shown, closed-screen}
-use Rattle.ansi_columns.proofs.EditWrapLemmas.{only-editing}
-use Rattle.ansi_columns.proofs.TailLemmas.{shown-safe, shown-one_line, shown-closed}
+use Rattle.ansi_cells.specs.Rows.{row_screen}
+use Rattle.ansi_cells.specs.Screens.{screen}
+use Rattle.ansi_columns.proofs.EditLemmas.{if_ok_both, closed-bytes, closed-shown, closed-screen, only-editing}
+use Rattle.ansi_cells.proofs.TailLemmas.{shown-safe, shown-one_line, shown-closed}
 use Rattle.ansi_columns.proofs.edits.edit_columns.Goals as goal
 
 -- one edit at least isn't an expansion

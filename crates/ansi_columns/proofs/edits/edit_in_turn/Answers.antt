@@ -1,9 +1,8 @@
 use Rattle.std.specs.Cow.{cow_str_bytes}
 use Rattle.ansi_columns.specs.Edits.{changes_of}
-use Rattle.ansi_columns.proofs.EditLemmas.{editing-begun, editing-next, editing-ended, first_left, lent-next, ended-shown, ended-screen}
-use Rattle.ansi_columns.proofs.EditWrapLemmas.{lent-ended}
+use Rattle.ansi_columns.proofs.EditLemmas.{editing-begun, editing-next, editing-ended, first_left, lent-next, ended-shown, ended-screen, lent-ended}
 use Rattle.std.proofs.Common.{refl}
-use Rattle.ansi_columns.proofs.TailLemmas.{shown-safe, shown-one_line, shown-closed}
+use Rattle.ansi_cells.proofs.TailLemmas.{shown-safe, shown-one_line, shown-closed}
 use Rattle.ansi_columns.proofs.edits.edit_in_turn.Goals as goal
 
 -- before the first edit, and after each

@@ -1,4 +1,4 @@
-use Rattle.ansi_columns.proofs.BreakLawLemmas.{clusters-add_up, columns-add_up}
+use Rattle.ansi_cells.proofs.BreakLawLemmas.{clusters-add_up, columns-add_up}
 use Rattle.ansi_columns.proofs.laws.columns_add_up.Goals as goal
 
 pub returns-clause-clusters : goal.returns-clause-clusters

@@ -1,4 +1,4 @@
-use Rattle.ansi_columns.proofs.FirstFitLemmas.{lines-first_fit}
+use Rattle.ansi_clusters.proofs.FirstFitLemmas.{lines-first_fit}
 use Rattle.ansi_columns.proofs.FirstFitLawLemmas.{first_fit-unique}
 use Rattle.ansi_columns.proofs.laws.first_fit_has_one_solution.Goals as goal
 

@@ -1,4 +1,4 @@
-use Rattle.ansi_columns.proofs.IndentLawLemmas.{shut-wrapped_with}
+use Rattle.ansi_cells.proofs.IndentLawLemmas.{shut-wrapped_with}
 use Rattle.ansi_columns.proofs.laws.indented_lines_are_closed.Goals as goal
 
 pub returns-clause-whole : goal.returns-clause-whole

@@ -1,4 +1,4 @@
-use Rattle.ansi_columns.proofs.LeftOutLawLemmas.{lines-begin, lines-left_out, lines-reassembled}
+use Rattle.ansi_wraps.proofs.LeftOutLawLemmas.{lines-begin, lines-left_out, lines-reassembled}
 use Rattle.ansi_columns.proofs.laws.lines_lose_blanks_and_line_ends.Goals as goal
 
 pub returns-clause-begin : goal.returns-clause-begin

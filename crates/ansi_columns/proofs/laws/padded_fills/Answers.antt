@@ -1,7 +1,7 @@
 use Rattle.ansi_safe.specs.Cells.{cell}
 use Rattle.ansi_safe.proofs.CellTextLemmas.{whole-cell, IsUtf8-cell}
-use Rattle.ansi_columns.proofs.LinkedLawLemmas.{padded-whole, padded-plain}
-use Rattle.ansi_columns.proofs.ShownLawLemmas.{padded-columns, padded-fills}
+use Rattle.ansi_cells.proofs.LinkedLawLemmas.{padded-whole, padded-plain}
+use Rattle.ansi_cells.proofs.ShownLawLemmas.{padded-columns, padded-fills}
 use Rattle.ansi_columns.proofs.laws.padded_fills.Goals as goal
 
 pub returns-clause-whole : goal.returns-clause-whole

@@ -1,4 +1,4 @@
-use Rattle.ansi_columns.proofs.AsciiLemmas.{columns-printable}
+use Rattle.ansi_clusters.proofs.AsciiLemmas.{columns-printable}
 use Rattle.ansi_columns.proofs.laws.printable_is_as_wide_as_long.Goals as goal
 
 pub returns : goal.returns

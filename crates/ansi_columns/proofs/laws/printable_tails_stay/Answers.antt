@@ -1,6 +1,6 @@
 use Rattle.std.proofs.lemmas.Str.{IsUtf8-from_ascii}
 use Rattle.ansi_safe.proofs.FrontLemmas.{printable-ascii}
-use Rattle.ansi_columns.proofs.TailLemmas.{closed_cell-printing, Prints-printable}
+use Rattle.ansi_cells.proofs.TailLemmas.{closed_cell-printing, Prints-printable}
 use Rattle.ansi_columns.proofs.laws.printable_tails_stay.Goals as goal
 
 pub returns : goal.returns

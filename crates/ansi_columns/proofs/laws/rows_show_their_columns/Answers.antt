@@ -1,4 +1,4 @@
-use Rattle.ansi_columns.proofs.RowLemmas.{screen-row}
+use Rattle.ansi_cells.proofs.RowLemmas.{screen-row}
 use Rattle.ansi_columns.proofs.RowScreenLemmas.{joined-screen, fitting-screen, columns-screen, blanks-screen}
 use Rattle.ansi_columns.proofs.laws.rows_show_their_columns.Goals as goal
 

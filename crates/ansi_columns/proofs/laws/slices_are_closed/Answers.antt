@@ -1,4 +1,4 @@
-use Rattle.ansi_columns.proofs.SliceLawLemmas.{sliced-whole, sliced-closed}
+use Rattle.ansi_cells.proofs.SliceLawLemmas.{sliced-whole, sliced-closed}
 use Rattle.ansi_columns.proofs.laws.slices_are_closed.Goals as goal
 
 pub returns-clause-whole : goal.returns-clause-whole

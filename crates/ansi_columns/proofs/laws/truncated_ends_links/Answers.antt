@@ -1,6 +1,6 @@
 use Rattle.ansi_safe.specs.Cells.{cell}
 use Rattle.ansi_safe.proofs.CellTextLemmas.{whole-cell}
-use Rattle.ansi_columns.proofs.LinkedLawLemmas.{truncated-linked, truncated-closed}
+use Rattle.ansi_cells.proofs.LinkedLawLemmas.{truncated-linked, truncated-closed}
 use Rattle.ansi_columns.proofs.laws.truncated_ends_links.Goals as goal
 
 pub returns-clause-linked : goal.returns-clause-linked

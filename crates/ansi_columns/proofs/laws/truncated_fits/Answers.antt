@@ -1,7 +1,7 @@
 use Rattle.ansi_safe.specs.Cells.{cell}
 use Rattle.ansi_safe.proofs.CellTextLemmas.{whole-cell, IsUtf8-cell}
-use Rattle.ansi_columns.proofs.LinkedLawLemmas.{truncated-whole, truncated-plain}
-use Rattle.ansi_columns.proofs.ShownLawLemmas.{truncated-columns, truncated-within}
+use Rattle.ansi_cells.proofs.LinkedLawLemmas.{truncated-whole, truncated-plain}
+use Rattle.ansi_cells.proofs.ShownLawLemmas.{truncated-columns, truncated-within}
 use Rattle.ansi_columns.proofs.laws.truncated_fits.Goals as goal
 
 pub returns-clause-whole : goal.returns-clause-whole

@@ -1,6 +1,6 @@
 use Rattle.ansi_safe.specs.Cells.{cell}
 use Rattle.ansi_safe.proofs.CellTextLemmas.{whole-cell}
-use Rattle.ansi_columns.proofs.StyledLawLemmas.{truncated-styled, truncated-residue}
+use Rattle.ansi_cells.proofs.StyledLawLemmas.{truncated-styled, truncated-residue}
 use Rattle.ansi_columns.proofs.laws.truncated_keeps_styles.Goals as goal
 
 pub returns-clause-styled : goal.returns-clause-styled

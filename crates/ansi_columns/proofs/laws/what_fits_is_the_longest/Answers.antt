@@ -1,4 +1,4 @@
-use Rattle.ansi_columns.proofs.ClusterLawLemmas.{fits-within, fits-greatest, shown-within, shown-greatest, shown-front}
+use Rattle.ansi_clusters.proofs.ClusterLawLemmas.{fits-within, fits-greatest, shown-within, shown-greatest, shown-front}
 use Rattle.ansi_columns.proofs.laws.what_fits_is_the_longest.Goals as goal
 
 pub returns-clause-within : goal.returns-clause-within

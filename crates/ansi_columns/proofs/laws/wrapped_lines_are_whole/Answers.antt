@@ -1,4 +1,4 @@
-use Rattle.ansi_columns.proofs.WrapLawLemmas.{wrapped_are_whole, wrapped_are_closed}
+use Rattle.ansi_cells.proofs.WrapLawLemmas.{wrapped_are_whole, wrapped_are_closed}
 use Rattle.ansi_columns.proofs.laws.wrapped_lines_are_whole.Goals as goal
 
 pub returns-clause-whole : goal.returns-clause-whole

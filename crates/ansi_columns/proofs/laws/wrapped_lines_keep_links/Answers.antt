@@ -1,4 +1,4 @@
-use Rattle.ansi_columns.proofs.WrapLawLemmas.{wrapped-linked, wrapped_end_links}
+use Rattle.ansi_cells.proofs.WrapLawLemmas.{wrapped-linked, wrapped_end_links}
 use Rattle.ansi_columns.proofs.laws.wrapped_lines_keep_links.Goals as goal
 
 pub returns-clause-linked : goal.returns-clause-linked

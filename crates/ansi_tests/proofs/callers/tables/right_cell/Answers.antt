@@ -3,9 +3,9 @@ use Rattle.std.specs.Prelude.{codes}
 use Rattle.std.proofs.lemmas.Result.{IfOk-weaker}
 use Rattle.ansi_str.specs.Plain.{plain}
 use Rattle.ansi_safe.specs.Cells.{cell}
-use Rattle.ansi_columns.specs.Columns.{columns}
-use Rattle.ansi_columns.specs.Fitted.{fitted}
-use Rattle.ansi_columns.specs.declared.shown.Alignment.TheVariants.{Right}
+use Rattle.ansi_clusters.specs.Columns.{columns}
+use Rattle.ansi_cells.specs.Fitted.{fitted}
+use Rattle.ansi_cells.specs.declared.shown.Alignment.TheVariants.{Right}
 use Rattle.ansi_tests.proofs.callers.tables.right_cell.Goals as goal
 
 -- the law for this tail, which stays as it is

@@ -1,0 +1,12 @@
+use Rattle.std.proofs.Common.{◌≡◌}
+use Rattle.ansi_items.specs.Scans.{pieces_left}
+use Rattle.ansi_style.specs.States.{rendition_of}
+use Rattle.ansi_cells.proofs.PlainCellLemmas.{IsPlainSoFar}
+use Rattle.ansi_cells.proofs.plain_cells.plain_runs.Given as goal
+
+-- what was passed is printable ASCII and SGRs
+abbrev pub invariant-loop-item : goal.invariant-loop-item
+invariant-loop-item l = record {
+  text : l.item-iterator.text ≡ l.near;
+  so_far : IsPlainSoFar l.near l.width l.left (rendition_of l.style) l.last l.item-iterator.offset (pieces_left l.item-iterator);
+}

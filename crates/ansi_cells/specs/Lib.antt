@@ -1,0 +1,12 @@
+pub mod OneLine
+pub mod Shown
+pub mod Fitted
+pub mod Sides
+pub mod Slices
+pub mod Screens
+pub mod Wrapped
+pub mod Indents
+pub mod Rows
+pub mod Addresses
+pub mod Tabs
+pub mod PlainCells

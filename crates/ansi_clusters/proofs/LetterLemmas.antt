@@ -1,0 +1,299 @@
+-- Letters of two bytes and printable ASCII: each is a cluster of one column beside another.
+use Rattle.std.proofs.Common.{◌≡◌, ℕ, Bool, suc, ◌+◌, ◌<◌, ◌≤◌, true, false, ◌&&◌, get_or, List, [], ◌∷◌, ◌++◌, length, take, drop, chars, cond, slice_range, encode_utf8, encode_utf8_all, refl, sym, ◌∙◌, ap, ap₂, subst, arith, append-nil, append_assoc, length-append, take-append-drop, ◌-◌, ◌≢◌, take-add}
+use Rattle.std.specs.List.{list_all, count_by, prefix_len}
+use Rattle.std.specs.Str.{IsUtf8, IsCharBoundary, byte}
+use Rattle.std.proofs.lemmas.Bool.{agree_below, agree_below_at, and_parts}
+use Rattle.std.proofs.lemmas.Bool.Decides.{nat_tests}
+use Rattle.std.proofs.lemmas.List.{drop-drop, length-take, length-take-le, take_at}
+use Rattle.std.proofs.lemmas.List.Folds.{list_all-append}
+use Rattle.std.proofs.lemmas.List.Sums.{sum_by-append, sum_by-cons, prefix_len-le-length, prefix_len_stops}
+use Rattle.std.proofs.lemmas.Str.{IsUtf8-take, IsUtf8-drop, IsCharBoundary-past_char, length-encode, chars-append, encodes-append, encodes-chars}
+use Rattle.ansi_clusters.specs.declared.break_state.BreakState.{BreakState}
+use Rattle.ansi_clusters.specs.declared.walks.Walk.{Walk}
+use Rattle.ansi_clusters.specs.declared.views.View.{View}
+use Rattle.ansi_clusters.specs.BreakStates.{break_state_of}
+use Rattle.ansi_clusters.specs.Letters.{is_letter, is_letter_byte, is_first_byte, AreLettersBefore, IsPlainSingle, ArePlain, ArePlainBefore, AreWide, AreWideBefore}
+use Rattle.ansi_clusters.specs.Walks.{IsWalkIn, IsNext, IsPastClusters}
+use Rattle.ansi_clusters.specs.Words.{ArePastLetters}
+use Rattle.unicode_segmentation.specs.Grapheme.{ends_in_linker, ends_in_pictograph, ends_in_half_flag}
+use Rattle.ucd_breaks.specs.declared.GraphemeClusterBreak.TheVariants.{Other}
+use Rattle.ansi_clusters.proofs.SingleLemmas.{IsShownSingle-letter, letter-elsewhere, single-elsewhere, break_state-single}
+use Rattle.ansi_clusters.proofs.SingleWalkLemmas.{walk_past, past-single, clusters-single, letters-none, letters-single}
+use Rattle.ansi_clusters.proofs.WalkLemmas.{rest_at}
+
+-- ---- the characters of bytes of letters
+
+pub boundary-letters : (t : List ℕ) → IsUtf8 t → IsCharBoundary t (prefix_len is_letter_byte t)
+boundary-letters t utf8 = (prefix_len-le-length is_letter_byte t, λ inside high. by (get_or t (prefix_len is_letter_byte t) 0) high (prefix_len_stops is_letter_byte t 0 inside))
+  where
+    by : (b : ℕ) → 128 ≤ b → is_letter_byte b ≡ false → 192 ≤ b
+    by b high stops = grind (arith, nat_tests)
+
+letter-char : (c : ℕ) → list_all is_letter_byte (encode_utf8 c) ≡ true → is_letter c ≡ true
+unfolding lib.Utf8.encode
+letter-char c all = grind (arith, nat_tests)
+
+letters-all : (cs : List ℕ) → list_all is_letter_byte (encode_utf8_all cs) ≡ true → list_all is_letter cs ≡ true
+letters-all [] all = refl
+letters-all (c ∷ cs) all =
+    let both = and_parts _ _ (sym (list_all-append is_letter_byte (encode_utf8 c) (encode_utf8_all cs)) ∙ all) in
+    ap₂ (λ a b. a && b) (letter-char c both.0) (letters-all cs both.1)
+
+letters-chars : (w : List ℕ) → IsUtf8 w → list_all is_letter_byte w ≡ true → list_all is_letter (chars w) ≡ true
+letters-chars w utf8 all = letters-all (chars w) (ap (list_all is_letter_byte) (encodes-chars w utf8) ∙ all)
+
+-- a text that begins with them, up to a place before their end
+pub letters-before : (t w rest : List ℕ) (k : ℕ) → t ≡ w ++ rest → IsUtf8 w → list_all is_letter_byte w ≡ true → IsCharBoundary w k → k < length w → AreLettersBefore t (take k w)
+letters-before t w rest k text utf8 all boundary inside =
+    let front = take k w in
+    let back = drop k w in
+    let front_utf8 = IsUtf8-take w k utf8 boundary in
+    let back_utf8 = IsUtf8-drop w k utf8 boundary in
+    let split : w ≡ front ++ back = sym (take-append-drop k w) in
+    let letters = and_parts _ _ (sym (list_all-append is_letter (chars front) (chars back)) ∙ ap (list_all is_letter) (sym (chars-append front back front_utf8) ∙ ap chars (sym split)) ∙ letters-chars w utf8 all) in
+    by (chars back) letters.0 letters.1 (encodes-chars front front_utf8) (encodes-chars back back_utf8)
+  where
+    by : (ds : List ℕ) → list_all is_letter (chars (take k w)) ≡ true → list_all is_letter ds ≡ true → encode_utf8_all (chars (take k w)) ≡ take k w → encode_utf8_all ds ≡ drop k w → AreLettersBefore t (take k w)
+    by [] first second front_is back_is = absurd (omega (arith, inside, ap length back_is, ap length (take-append-drop k w), length-append (take k w) (drop k w), length-take-le k w (omega (arith, inside))))
+    by (d ∷ ds) first second front_is back_is = record {
+      letters = chars (take k w);
+      last = d;
+      more = encode_utf8_all ds ++ rest;
+      all = first;
+      last_is = (and_parts _ _ second).0;
+      front_is = sym front_is;
+      bytes = text ∙ ap (λ u. u ++ rest) (sym (take-append-drop k w) ∙ ap (λ u. take k w ++ u) (sym back_is)) ∙ append_assoc (take k w) (encode_utf8 d ++ encode_utf8_all ds) rest ∙ ap (λ u. take k w ++ u) (append_assoc (encode_utf8 d) (encode_utf8_all ds) rest);
+    }
+
+-- a part of a part of a part at the front of a text
+slice-front : (t : List ℕ) (n : ℕ) → slice_range t 0 n ≡ take n t
+slice-front t n = (let count : n - 0 ≡ n = omega arith in ap (λ k. take k t) count)
+
+module _ (t near w front : List ℕ) (m n k : ℕ) (near_is : near ≡ slice_range t 0 m) (w_is : w ≡ slice_range near 0 n) (front_is : front ≡ slice_range w 0 k) where
+  pub front-is : front ≡ take k w
+  front-is = front_is ∙ slice-front w k
+
+  pub text-split : t ≡ w ++ (drop n near ++ drop m t)
+  text-split =
+      sym (take-append-drop m t) ∙ ap (λ u. u ++ drop m t) (sym (near_is ∙ slice-front t m) ∙ sym (take-append-drop n near) ∙ ap (λ u. u ++ drop n near) (sym (w_is ∙ slice-front near n)))
+      ∙ append_assoc w (drop n near) (drop m t)
+
+  pub front-taken : front ≡ take (length front) t
+  front-taken =
+      let rest = drop k w ++ (drop n near ++ drop m t) in
+      let all : t ≡ front ++ rest = text-split ∙ ap (λ u. u ++ (drop n near ++ drop m t)) (sym (take-append-drop k w) ∙ ap (λ u. u ++ drop k w) (sym front-is)) ∙ append_assoc front (drop k w) (drop n near ++ drop m t) in
+      sym (ap (take (length front)) all ∙ take_at front rest (length front) refl)
+
+  pub front-size : (length front ≤ m) × (length front ≤ length t)
+  front-size =
+      let one = ap length (front-is) ∙ length-take k w in
+      let two = ap length (w_is ∙ slice-front near n) ∙ length-take n near in
+      let three = ap length (near_is ∙ slice-front t m) ∙ length-take m t in
+      (omega (arith, one, two, three), omega (arith, one, two, three))
+
+-- ---- how many they are
+
+-- as many pass either of two tests of bytes that agree
+pub count-agree : (p q : ℕ → Bool) → agree_below p q 256 ≡ true → (xs : List ℕ) → ((k : ℕ) → k < length xs → get_or xs k 0 < 256) → count_by p xs ≡ count_by q xs
+count-agree p q agrees [] below = refl
+count-agree p q agrees (x ∷ xs) below =
+    omega (
+      arith,
+      sum_by-cons (λ y. cond (p y) 1 0) x xs,
+      sum_by-cons (λ y. cond (q y) 1 0) x xs,
+      ap {B = ℕ} (λ b. cond b 1 0) (agree_below_at p q 256 x agrees (below 0 (omega arith))),
+      count-agree p q agrees xs (λ k inside. below (suc k) (omega (arith, inside))),
+    )
+
+pub count-most : (p : ℕ → Bool) (xs : List ℕ) → count_by p xs ≤ length xs
+count-most p [] = omega arith
+count-most p (x ∷ xs) = omega (arith, sum_by-cons (λ y. cond (p y) 1 0) x xs, few (p x), count-most p xs)
+  where
+    few : (b : Bool) → cond b 1 0 ≤ 1
+    few true = omega arith
+    few false = omega arith
+
+-- those of a part, and those after it
+pub count-parts : (p : ℕ → Bool) (n at : ℕ) (xs : List ℕ) → count_by p (take n (drop at xs)) + count_by p (drop (at + n) xs) ≡ count_by p (drop at xs)
+count-parts p n at xs =
+    omega (arith, sum_by-append (λ y. cond (p y) 1 0) (take n (drop at xs)) (drop n (drop at xs)), ap (count_by p) (take-append-drop n (drop at xs)), ap (count_by p) (drop-drop n at xs))
+
+count-letter : (c : ℕ) → is_letter c ≡ true → count_by is_first_byte (encode_utf8 c) ≡ 1
+unfolding lib.Utf8.encode
+count-letter c is = grind (arith, nat_tests)
+
+pub count-letters : (cs : List ℕ) → list_all is_letter cs ≡ true → count_by is_first_byte (encode_utf8_all cs) ≡ length cs
+count-letters [] all = refl
+count-letters (c ∷ cs) all =
+    let both = and_parts (is_letter c) (list_all is_letter cs) all in
+    omega (arith, sum_by-append (λ b. cond (is_first_byte b) 1 0) (encode_utf8 c) (encode_utf8_all cs), count-letter c both.0, count-letters cs both.1)
+
+-- ---- a walk over them
+
+-- the state after such a character, as after nothing
+plain-state : {c width : ℕ} (before : List ℕ) → IsPlainSingle c width → break_state_of [] ≡ break_state_of (c ∷ before)
+unfolding ends_in_linker ends_in_pictograph ends_in_half_flag
+plain-state {c} before is = break_state-single c before Other is.shown.single (single-elsewhere c is.shown.single.break is.elsewhere)
+
+-- a letter is one
+letter-single : (c : ℕ) → is_letter c ≡ true → IsPlainSingle c 1
+letter-single c is = record { shown = IsShownSingle-letter c is; elsewhere = letter-elsewhere c is }
+
+-- the walk after n bytes of them
+abbrev pub past_letter_bytes : Walk → ℕ → Walk
+past_letter_bytes w n = walk_past w n (break_state_of [])
+
+plain-letters : (cs : List ℕ) → list_all is_letter cs ≡ true → ArePlain cs (length cs)
+plain-letters [] all = refl
+plain-letters (c ∷ cs) all =
+    let both = and_parts (is_letter c) (list_all is_letter cs) all in
+    (1, length cs, letter-single c both.0, plain-letters cs both.1, omega arith)
+
+plain-wide : (cs : List ℕ) (n : ℕ) → AreWide cs n → ArePlain cs n
+plain-wide [] n none = none
+plain-wide (c ∷ cs) n all = (all.0, all.1, all.2, plain-wide cs all.1 all.4, all.5)
+
+clusters-plain : {view : View} {t : List ℕ} {from : Walk} (c : ℕ) (cs : List ℕ) {w : Walk} {n : ℕ} (m d last : ℕ) (more : List ℕ) → IsUtf8 t → IsPastClusters view t from w n → slice_range t w.offset w.run_end ≡ encode_utf8_all (c ∷ cs) ++ (encode_utf8 d ++ more) → ArePlain (c ∷ cs) m → IsPlainSingle d last
+    → IsPastClusters view t from (past_letter_bytes w (length (encode_utf8_all (c ∷ cs)))) (n + m)
+clusters-plain {view} {t} {from} c [] {w} {n} m d last more utf8 so_far bytes all last_is =
+    let width = all.0 in
+    let same : encode_utf8_all (c ∷ []) ≡ encode_utf8 c = append-nil (encode_utf8 c) in
+    let count : n + width ≡ n + m = omega (arith, all.4, all.3) in
+    subst (λ k. IsPastClusters view t from (past_letter_bytes w (length (encode_utf8_all (c ∷ [])))) k) count
+    (clusters-single (length (encode_utf8_all (c ∷ []))) (break_state_of []) more utf8 so_far (bytes ∙ ap (λ u. u ++ (encode_utf8 d ++ more)) same) all.2.shown last_is.shown (ap length same) (λ before. plain-state before all.2))
+clusters-plain {view} {t} {from} c (e ∷ cs) {w} {n} m d last more utf8 so_far bytes all last_is =
+    let width = all.0 in
+    let left = all.1 in
+    let next = all.3 in
+    let len = length (encode_utf8 c) in
+    let rest = encode_utf8_all (e ∷ cs) ++ (encode_utf8 d ++ more) in
+    let then : slice_range t w.offset w.run_end ≡ encode_utf8 c ++ rest = bytes ∙ append_assoc (encode_utf8 c) (encode_utf8_all (e ∷ cs)) (encode_utf8 d ++ more) in
+    let second : rest ≡ encode_utf8 e ++ (encode_utf8_all cs ++ (encode_utf8 d ++ more)) = append_assoc (encode_utf8 e) (encode_utf8_all cs) (encode_utf8 d ++ more) in
+    let one = clusters-single len (break_state_of []) (encode_utf8_all cs ++ (encode_utf8 d ++ more)) utf8 so_far (then ∙ ap (λ u. encode_utf8 c ++ u) second) all.2.shown next.2.shown refl (λ before. plain-state before all.2) in
+    let here : IsNext t w c = record { rest = rest; bytes = then } in
+    let all_past = clusters-plain e cs left d last more utf8 one (rest_at t utf8 w so_far.walk c here) next last_is in
+    let size : len + length (encode_utf8_all (e ∷ cs)) ≡ length (encode_utf8_all (c ∷ (e ∷ cs))) = sym (length-append (encode_utf8 c) (encode_utf8_all (e ∷ cs))) in
+    let position : w.position + len + length (encode_utf8_all (e ∷ cs)) ≡ w.position + length (encode_utf8_all (c ∷ (e ∷ cs))) = omega (arith, size) in
+    let offset : w.offset + len + length (encode_utf8_all (e ∷ cs)) ≡ w.offset + length (encode_utf8_all (c ∷ (e ∷ cs))) = omega (arith, size) in
+    let at : ℕ → ℕ → Walk = λ p o. record { position = p; offset = o; run_end = w.run_end; break_state = break_state_of [] } in
+    let count : n + width + left ≡ n + m = omega (arith, all.4) in
+    subst (λ k. IsPastClusters view t from (past_letter_bytes w (length (encode_utf8_all (c ∷ (e ∷ cs))))) k) count
+    (subst (λ v. IsPastClusters view t from v (n + width + left)) (ap₂ at position offset) all_past)
+
+-- a walk over no clusters
+clusters-nothing : {view : View} {t : List ℕ} {w : Walk} → IsWalkIn view t w → IsPastClusters view t w w 0
+clusters-nothing walk = record { clusters = []; walk = walk; ordered = omega arith; all = refl; seen = omega arith; each = refl; columns_are = refl; bound = omega arith }
+
+-- a walk over the characters that the run begins with, but the last one
+pub past-stretch : {view : View} {t run : List ℕ} {w : Walk} {n : ℕ} (len : ℕ) (state : BreakState) → IsUtf8 t → IsWalkIn view t w → slice_range t w.offset w.run_end ≡ run → ArePlainBefore run (take len run) n → 0 < len → len ≤ length run → state ≡ break_state_of [] → IsPastClusters view t w (walk_past w len state) n
+past-stretch {view} {t} {run} {w} {n} len state utf8 walk run_is are some within state_is = by are.singles are.all are.front_is
+  where
+    size : length (take len run) ≡ len
+    size = length-take-le len run within
+
+    by : (cs : List ℕ) → ArePlain cs n → take len run ≡ encode_utf8_all cs → IsPastClusters view t w (walk_past w len state) n
+    by [] all front_is = absurd (omega (arith, some, size, ap length front_is))
+    by (c ∷ cs) all front_is =
+        let whole : slice_range t w.offset w.run_end ≡ encode_utf8_all (c ∷ cs) ++ (encode_utf8 are.last ++ are.more) = run_is ∙ are.bytes ∙ ap (λ u. u ++ (encode_utf8 are.last ++ are.more)) front_is in
+        let past = clusters-plain c cs n are.last are.width are.more utf8 (clusters-nothing walk) whole all are.last_is in
+        let count : 0 + n ≡ n = omega arith in
+        let length_is : length (encode_utf8_all (c ∷ cs)) ≡ len = ap length (sym front_is) ∙ size in
+        subst (λ k. IsPastClusters view t w (walk_past w len state) k) count
+        (subst (λ v. IsPastClusters view t w v (0 + n)) (ap₂ (λ k s. walk_past w k s) length_is (sym state_is)) past)
+
+-- letters are such characters
+pub letters-stretch : {t front : List ℕ} {n : ℕ} → AreLettersBefore t front → n ≡ count_by is_first_byte front → ArePlainBefore t front n
+letters-stretch {t} {front} {n} are count_is =
+    let count : length are.letters ≡ n = omega (arith, count_is, ap (count_by is_first_byte) are.front_is, count-letters are.letters are.all) in
+    record {
+      singles = are.letters;
+      last = are.last;
+      width = 1;
+      more = are.more;
+      all = subst (ArePlain are.letters) count (plain-letters are.letters are.all);
+      last_is = letter-single are.last are.last_is;
+      front_is = are.front_is;
+      bytes = are.bytes;
+    }
+
+-- and so are those that aren't blanks
+pub wide-stretch : {t front : List ℕ} {n : ℕ} → AreWideBefore t front n → ArePlainBefore t front n
+wide-stretch {n = n} are = record { singles = are.singles; last = are.last; width = are.width; more = are.more; all = plain-wide are.singles n are.all; last_is = are.last_is; front_is = are.front_is; bytes = are.bytes }
+
+-- these are letters of a word
+words-wide : {view : View} {t : List ℕ} {from : Walk} (c : ℕ) (cs : List ℕ) {w : Walk} {n : ℕ} (m d last : ℕ) (more : List ℕ) → IsUtf8 t → IsWalkIn view t w → ArePastLetters view t from w n → slice_range t w.offset w.run_end ≡ encode_utf8_all (c ∷ cs) ++ (encode_utf8 d ++ more) → AreWide (c ∷ cs) m → IsPlainSingle d last
+    → ArePastLetters view t from (past_letter_bytes w (length (encode_utf8_all (c ∷ cs)))) (n + m)
+words-wide {view} {t} {from} c [] {w} {n} m d last more utf8 walk so_far bytes all last_is =
+    let same : encode_utf8_all (c ∷ []) ≡ encode_utf8 c = append-nil (encode_utf8 c) in
+    let count : n + all.0 ≡ n + m = omega (arith, all.5, all.4) in
+    subst (λ k. ArePastLetters view t from (past_letter_bytes w (length (encode_utf8_all (c ∷ [])))) k) count
+    (letters-single (length (encode_utf8_all (c ∷ []))) (break_state_of []) more utf8 walk so_far (bytes ∙ ap (λ u. u ++ (encode_utf8 d ++ more)) same) all.2.shown last_is.shown (ap length same) (λ before. plain-state before all.2) all.3)
+words-wide {view} {t} {from} c (e ∷ cs) {w} {n} m d last more utf8 walk so_far bytes all last_is =
+    let width = all.0 in
+    let left = all.1 in
+    let next = all.4 in
+    let len = length (encode_utf8 c) in
+    let rest = encode_utf8_all (e ∷ cs) ++ (encode_utf8 d ++ more) in
+    let then : slice_range t w.offset w.run_end ≡ encode_utf8 c ++ rest = bytes ∙ append_assoc (encode_utf8 c) (encode_utf8_all (e ∷ cs)) (encode_utf8 d ++ more) in
+    let second : rest ≡ encode_utf8 e ++ (encode_utf8_all cs ++ (encode_utf8 d ++ more)) = append_assoc (encode_utf8 e) (encode_utf8_all cs) (encode_utf8 d ++ more) in
+    let two = then ∙ ap (λ u. encode_utf8 c ++ u) second in
+    let state = λ (before : List ℕ). plain-state before all.2 in
+    let after = encode_utf8_all cs ++ (encode_utf8 d ++ more) in
+    let one = letters-single len (break_state_of []) after utf8 walk so_far two all.2.shown next.2.shown refl state all.3 in
+    let later = past-single view t utf8 w walk c e after two (walk_past w len (break_state_of [])) width next.0 all.2.shown next.2.shown refl refl refl state in
+    let here : IsNext t w c = record { rest = rest; bytes = then } in
+    let all_past = words-wide e cs left d last more utf8 later.0 one (rest_at t utf8 w walk c here) next last_is in
+    let size : len + length (encode_utf8_all (e ∷ cs)) ≡ length (encode_utf8_all (c ∷ (e ∷ cs))) = sym (length-append (encode_utf8 c) (encode_utf8_all (e ∷ cs))) in
+    let position : w.position + len + length (encode_utf8_all (e ∷ cs)) ≡ w.position + length (encode_utf8_all (c ∷ (e ∷ cs))) = omega (arith, size) in
+    let offset : w.offset + len + length (encode_utf8_all (e ∷ cs)) ≡ w.offset + length (encode_utf8_all (c ∷ (e ∷ cs))) = omega (arith, size) in
+    let at : ℕ → ℕ → Walk = λ p o. record { position = p; offset = o; run_end = w.run_end; break_state = break_state_of [] } in
+    let count : n + width + left ≡ n + m = omega (arith, all.5) in
+    subst (λ k. ArePastLetters view t from (past_letter_bytes w (length (encode_utf8_all (c ∷ (e ∷ cs))))) k) count
+    (subst (λ v. ArePastLetters view t from v (n + width + left)) (ap₂ at position offset) all_past)
+
+pub past-words : {view : View} {t run : List ℕ} {w : Walk} {n : ℕ} (len : ℕ) (state : BreakState) → IsUtf8 t → IsWalkIn view t w → slice_range t w.offset w.run_end ≡ run → AreWideBefore run (take len run) n → 0 < len → len ≤ length run → state ≡ break_state_of [] → ArePastLetters view t w (walk_past w len state) n
+past-words {view} {t} {run} {w} {n} len state utf8 walk run_is are some within state_is = by are.singles are.all are.front_is
+  where
+    size : length (take len run) ≡ len
+    size = length-take-le len run within
+
+    by : (cs : List ℕ) → AreWide cs n → take len run ≡ encode_utf8_all cs → ArePastLetters view t w (walk_past w len state) n
+    by [] all front_is = absurd (omega (arith, some, size, ap length front_is))
+    by (c ∷ cs) all front_is =
+        let whole : slice_range t w.offset w.run_end ≡ encode_utf8_all (c ∷ cs) ++ (encode_utf8 are.last ++ are.more) = run_is ∙ are.bytes ∙ ap (λ u. u ++ (encode_utf8 are.last ++ are.more)) front_is in
+        let past = words-wide c cs n are.last are.width are.more utf8 walk (letters-none view t w) whole all are.last_is in
+        let count : 0 + n ≡ n = omega arith in
+        let length_is : length (encode_utf8_all (c ∷ cs)) ≡ len = ap length (sym front_is) ∙ size in
+        subst (λ k. ArePastLetters view t w (walk_past w len state) k) count
+        (subst (λ v. ArePastLetters view t w v (0 + n)) (ap₂ (λ k s. walk_past w k s) length_is (sym state_is)) past)
+
+-- ---- ideographs and the like
+
+wide-append : (cs : List ℕ) (n c width : ℕ) → AreWide cs n → IsPlainSingle c width → c ≢ byte " " → AreWide (cs ++ c ∷ []) (n + width)
+wide-append [] n c width none single solid = (width, 0, single, solid, refl, omega (arith, none))
+wide-append (e ∷ cs) n c width all single solid = (all.0, all.1 + width, all.2, all.3, wide-append cs all.1 c width all.4 single solid, omega (arith, all.5))
+
+-- one more character after those that were passed
+module _ (t : List ℕ) (utf8 : IsUtf8 t) (at n : ℕ) (boundary : IsCharBoundary t at) (cs : List ℕ) (all : AreWide cs n) (front : take at t ≡ encode_utf8_all cs) (c width : ℕ) (single : IsPlainSingle c width) (solid : c ≢ byte " ") (rest : List ℕ) (next : drop at t ≡ encode_utf8 c ++ rest) where
+  pub wide-front : AreWideBefore t (take at t) n
+  wide-front = record {
+    singles = cs;
+    last = c;
+    width = width;
+    more = rest;
+    all = all;
+    last_is = single;
+    front_is = front;
+    bytes = sym (take-append-drop at t) ∙ ap (λ u. take at t ++ u) next;
+  }
+
+  pub wide-next : (ds : List ℕ) × AreWide ds (n + width) × (take (at + length (encode_utf8 c)) t ≡ encode_utf8_all ds)
+  wide-next = (
+    cs ++ c ∷ [],
+    wide-append cs n c width all single solid,
+    take-add at (length (encode_utf8 c)) t ∙ ap₂ (λ u v. u ++ v) front (ap (take (length (encode_utf8 c))) next ∙ take_at (encode_utf8 c) rest (length (encode_utf8 c)) refl)
+        ∙ sym (encodes-append cs (c ∷ []) ∙ ap (λ u. encode_utf8_all cs ++ u) (append-nil (encode_utf8 c))),
+  )
+
+  pub wide-boundary : IsCharBoundary t (at + length (encode_utf8 c))
+  wide-boundary = subst (λ n. IsCharBoundary t (at + n)) (sym (length-encode c)) (IsCharBoundary-past_char t rest at c boundary.0 (IsUtf8-drop t at utf8 boundary) next)

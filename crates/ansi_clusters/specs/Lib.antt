@@ -1,0 +1,10 @@
+pub mod Columns
+pub mod Lines
+pub mod FirstFit
+pub mod BreakStates
+pub mod Views
+pub mod Walks
+pub mod Reverse
+pub mod Words
+pub mod Letters
+pub mod LineWalks

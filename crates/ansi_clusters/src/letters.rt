@@ -1,0 +1,242 @@
+//! Letters of two bytes and printable ASCII, which are clusters of one column beside each other, and
+//! ideographs and the like.
+ghost use Rattle.std.specs.Prelude.{◌≡◌, ◌≢◌, ◌<◌, ◌≤◌, length, take, IfSome};
+ghost use Rattle.std.specs.List.{count_by, prefix_len};
+ghost use Rattle.ansi_clusters.specs.Letters.{is_letter_byte, is_first_byte, AreLettersBefore};
+ghost use Rattle.ansi_clusters.specs.Letters.{IsPlainSingle, ArePlainBefore, AreWideBefore};
+
+use crate::singles::single_columns;
+use crate::walks::Walk;
+use std::simd::prelude::*;
+
+/// The least number of bytes of a run, and of columns that are left, for which a stretch is looked for.
+const LEAST: usize = 16;
+
+impl Walk {
+    ghost use Rattle.std.specs.Prelude.{◌≤◌};
+    ghost use Rattle.ansi_clusters.specs.declared.views.View.{View};
+    ghost use Rattle.ansi_clusters.specs.Walks.{IsWalkIn, IsAnyWalk, IsPastClusters};
+    ghost use Rattle.ansi_clusters.specs.Words.{ArePastLetters};
+
+    /// The walk after a stretch of letters, or of kana, ideographs and the like, that comes next in the run,
+    /// and their columns, at most `most`. Each of them is a cluster by itself. The last one isn't passed.
+    /// There may be none.
+    #[inline(always)]
+    pub(crate) fn past_stretch(self, text: &str, most: usize) -> (Walk, usize)
+        requires { IsAnyWalk text.now self }
+        ensures past { (view : View) → IsWalkIn view text.now self →
+            IsPastClusters view text.now self result.0 result.1 }
+        ensures most { result.1 ≤ most }
+    {
+        let run = &text[self.offset..self.run_end];
+        if most < LEAST || !begins_stretch(run.as_bytes()) {
+            return (self, 0);
+        }
+        let (len, columns) = stretch_before_last(run, most);
+        if len == 0 {
+            return (self, 0);
+        }
+        (self.on(len), columns)
+    }
+
+    /// The same for kana, ideographs and the like.
+    #[inline(always)]
+    pub(crate) fn past_wide(self, text: &str, most: usize) -> (Walk, usize)
+        requires { IsAnyWalk text.now self }
+        ensures past { (view : View) → IsWalkIn view text.now self →
+            ArePastLetters view text.now self result.0 result.1 }
+        ensures most { result.1 ≤ most }
+    {
+        let run = &text[self.offset..self.run_end];
+        if !begins_wide(run.as_bytes()) {
+            return (self, 0);
+        }
+        let (len, columns) = wide_before_last(run, most);
+        if len == 0 {
+            return (self, 0);
+        }
+        (self.on(len), columns)
+    }
+}
+
+/// Whether a run seems to begin with a stretch of which it pays to look at all.
+#[inline(always)]
+fn begins_stretch(run: &[u8]) -> bool {
+    LEAST <= run.len() && (begins_letters(run) || begins_wide(run))
+}
+
+/// Whether a run begins with two letters.
+#[inline(always)]
+fn begins_letters(run: &[u8]) -> bool {
+    matches!(
+        run,
+        [0x20..=0x7E, 0xC3..=0xCB | 0xCE..=0xD1, ..]
+            | [0xC3..=0xCB | 0xCE..=0xD1, _, 0x20..=0x7E | 0xC3..=0xCB | 0xCE..=0xD1, ..]
+    )
+}
+
+/// Whether a run seems to begin with eight ideographs or the like.
+#[inline(always)]
+fn begins_wide(run: &[u8]) -> bool {
+    24 <= run.len() && matches!(run[0], 0xE3..=0xE9) && matches!(run[21], 0xE3..=0xE9)
+}
+
+/// How many bytes of letters, or of kana, ideographs and the like, a text begins with, without the last
+/// character, and how many columns those have, at most `most`. (Not inlined, so that loops over other
+/// characters keep their registers.)
+#[inline(never)]
+fn stretch_before_last(text: &str, most: usize) -> (usize, usize)
+    ensures stretch { 0 < result.0 →
+        ArePlainBefore text.now (take result.0 text.now) result.1 }
+    ensures within { result.0 ≤ length text.now }
+    ensures most { result.1 ≤ most }
+{
+    match text.as_bytes() {
+        [0xE3..=0xE9, ..] => wide_before_last(text, most),
+        _ => letters_before_last(text, most),
+    }
+}
+
+/// How many bytes of letters a text begins with, without the last letter, and how many letters those are, at
+/// most `most`.
+#[inline(always)]
+fn letters_before_last(text: &str, most: usize) -> (usize, usize)
+    ensures letters { 0 < result.0 → AreLettersBefore text.now (take result.0 text.now) }
+    ensures count { result.1 ≡ count_by is_first_byte (take result.0 text.now) }
+    ensures within { result.0 ≤ length text.now }
+    ensures most { result.1 ≤ most }
+{
+    let near = &text[..text.floor_char_boundary(most)];
+    let len = letters_len(near.as_bytes());
+    let letters = &near[..len];
+    let front = &letters[..letters.floor_char_boundary(len.saturating_sub(1))];
+    (front.len(), letter_count(front))
+}
+
+/// How many bytes of kana, ideographs and the like a text begins with, without the last character, and how
+/// many columns those have, at most `most`.
+#[inline(never)]
+fn wide_before_last(text: &str, most: usize) -> (usize, usize)
+    ensures wide { 0 < result.0 → AreWideBefore text.now (take result.0 text.now) result.1 }
+    ensures within { result.0 ≤ length text.now }
+    ensures most { result.1 ≤ most }
+{
+    let mut at = 0;
+    let mut columns = 0;
+    let mut front = 0;
+    let mut front_columns = 0;
+    'characters: while let Some(0xE3..=0xE9) = text.as_bytes().get(at) {
+        let Some(c) = text[at..].chars().next() else {
+            break;
+        };
+        let Some(width) = wide_columns(c) else {
+            break;
+        };
+        front = at;
+        front_columns = columns;
+        if most - columns < width {
+            break;
+        }
+        columns += width;
+        at += c.len_utf8();
+    }
+    (front, front_columns)
+}
+
+/// The columns of a single character of U+3000 to U+9FFF.
+#[inline(always)]
+fn wide_columns(c: char) -> Option<usize>
+    ensures { IfSome result (λ columns. IsPlainSingle c columns × (c ≢ 32)) }
+{
+    if !matches!(c, '\u{3000}'..='\u{9FFF}') {
+        return None;
+    }
+    single_columns(c)
+}
+
+/// How many bytes of letters are at the front. They are read 16 at a time, and the last 16 may overlap those
+/// before.
+#[inline(always)]
+fn letters_len(bytes: &[u8]) -> usize
+    ensures { result ≡ prefix_len is_letter_byte bytes.now }
+{
+    let len = bytes.len();
+    if len < 16 {
+        return bytes.iter().take_while(|b| is_letter_byte(**b)).count();
+    }
+    let mut at = 0;
+    while at < len {
+        let start = at.min(len - 16);
+        let front = letters_len_of_16(&bytes[start..]);
+        if front < 16 {
+            return start + front;
+        }
+        at = start + 16;
+    }
+    len
+}
+
+/// Whether the byte is one of a letter.
+#[inline(always)]
+fn is_letter_byte(b: u8) -> bool
+    ensures { result ≡ is_letter_byte b }
+{
+    matches!(b, 0x20..=0x7E | 0x80..=0xBF | 0xC3..=0xCB | 0xCE..=0xD1)
+}
+
+/// How many bytes of letters the first 16 bytes begin with.
+#[inline(always)]
+fn letters_len_of_16(bytes: &[u8]) -> usize
+    requires { 16 ≤ length bytes.now }
+    ensures { result ≡ prefix_len is_letter_byte (take 16 bytes.now) }
+{
+    let block = u8x16::from_slice(bytes);
+    let printable = (block - u8x16::splat(0x20)).simd_lt(u8x16::splat(0x5F));
+    let further = (block - u8x16::splat(0x80)).simd_lt(u8x16::splat(0x40));
+    let latin = (block - u8x16::splat(0xC3)).simd_lt(u8x16::splat(9));
+    let greek = (block - u8x16::splat(0xCE)).simd_lt(u8x16::splat(4));
+    let others = (!(printable | further | latin | greek)).to_bitmask();
+    if others == 0 {
+        return 16;
+    }
+    others.trailing_zeros() as usize
+}
+
+/// How many characters letters are. Their bytes are read 16 at a time.
+#[inline(always)]
+fn letter_count(letters: &str) -> usize
+    ensures { result ≡ count_by is_first_byte letters.now }
+{
+    let bytes = letters.as_bytes();
+    let mut count = 0;
+    let mut at = 0;
+    while 16 <= bytes.len() - at {
+        count += firsts_of_16(&bytes[at..]);
+        at += 16;
+    }
+    while at < bytes.len() {
+        count += is_first_byte(bytes[at]) as usize;
+        at += 1;
+    }
+    count
+}
+
+/// How many of the first 16 bytes are the first of a character.
+#[inline(always)]
+fn firsts_of_16(bytes: &[u8]) -> usize
+    requires { 16 ≤ length bytes.now }
+    ensures count { result ≡ count_by is_first_byte (take 16 bytes.now) }
+    ensures most { result ≤ 16 }
+{
+    // The others are 80 to BF, and C0 to FF less C0 is less than C0 too.
+    let firsts = (u8x16::from_slice(bytes) - u8x16::splat(0xC0)).simd_lt(u8x16::splat(0xC0));
+    firsts.to_bitmask().count_ones() as usize
+}
+
+/// Whether the byte is the first of a character.
+#[inline(always)]
+fn is_first_byte(b: u8) -> bool
+    ensures { result ≡ is_first_byte b }
+{
+    !matches!(b, 0x80..=0xBF)
+}

@@ -1,5 +1,0 @@
-use Rattle.ansi_columns.proofs.SingleLemmas.{break_state-single}
-use Rattle.ansi_columns.proofs.break_state.BreakState.after_single.Goals as goal
-
-pub returns : goal.returns
-returns c before = break_state-single c.args.c before c.single_value.result c.requires c.single_value.ensures

@@ -1,7 +1,0 @@
-use Rattle.std.proofs.Common.{refl}
-use Rattle.ansi_columns.specs.Wrapped.{lines_over}
-use Rattle.ansi_columns.proofs.wrap.spans.Spans.finish.Goals as goal
-
-pub returns-clause-lines : goal.returns-clause-lines
-unfolding lines_over
-returns-clause-lines c = λ t. refl

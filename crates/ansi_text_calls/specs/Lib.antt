@@ -1,0 +1,11 @@
+pub mod Answers
+pub mod Styles
+pub mod Lists
+pub mod Steps
+pub mod Walks
+pub mod Safe
+pub mod Restyles
+pub mod Replacements
+pub mod Links
+pub mod Pens
+pub mod Calls
