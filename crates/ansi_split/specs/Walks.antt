@@ -1,9 +1,10 @@
 -- What is left of a text that is split, as plain data.
-use Rattle.std.specs.Prelude.{◌≤◌, List, [], take, Option, IsTrue, IsFalse, IsUtf8, if◌then◌else◌}
+use Rattle.std.specs.Prelude.{◌≡◌, ◌≤◌, ℕ, List, [], take, Option, IsTrue, IsFalse, IsUtf8, if◌then◌else◌}
 use Rattle.std.specs.Option.{option_map}
 use Rattle.std.specs.Str.{IsCharBoundary}
 use Rattle.ansi_items.specs.Plain.{plain, has_escape}
 use Rattle.ansi_search.specs.Positions.{is_char_boundary}
+use Rattle.ansi_search.specs.Matches.{first_match_from}
 use Rattle.ansi_style.specs.declared.state.rendition.Rendition.{Rendition}
 use Rattle.ansi_style.specs.States.{rendition_of, rendition_of_numbers}
 use Rattle.ansi_split.specs.Splits.{CarriedPart}
@@ -27,3 +28,7 @@ pub record IsPartWalk (w : PartWalk) : Type 0 where
   pub run_is_plain : IsFalse (has_escape (take w.run_len w.rest.now))
   pub skip_ends : IsTrue (is_char_boundary (plain w.rest.now) w.skip)
   pub skip_before : w.skip ≤ w.from
+
+-- the next match of a walk is still to be searched for from the place `later` on
+abbrev pub IsSearchedUpTo : PartWalk → ℕ → Type 0
+IsSearchedUpTo w later = (w.from ≤ later) × (first_match_from (plain w.rest.now) w.pattern.now later ≡ first_match_from (plain w.rest.now) w.pattern.now w.from)

@@ -1,12 +1,12 @@
 //! Splits that are paused, in memory that isn't Rattle's. They have a module of their own, since
 //! `ansi_str` passes `split` on.
-ghost use Rattle.std.specs.Prelude.{◌≡◌, ◌↔◌, ◌∷◌, [], IsTrue, IsFalse, IfSome};
+ghost use Rattle.std.specs.Prelude.{◌≡◌, ◌↔◌, ◌∷◌, [], IsTrue, IsFalse, IfSome, MatchResult};
 ghost use Rattle.std.specs.Option.{MatchOption, option_map};
 ghost use Rattle.ansi_items.specs.Plain.{has_escape};
 ghost use Rattle.ansi_style.specs.States.{rendition_of, rendition_of_numbers};
-ghost use Rattle.ansi_split.specs.Spans.{span_part, IsRunFirst, IsStretchFirst};
+ghost use Rattle.ansi_split.specs.Spans.{span_part, IsBareFirst, IsRunFirst, IsStretchFirst};
 ghost use Rattle.ansi_split.specs.Splits.{split_parts, GivesPart};
-ghost use Rattle.ansi_split.specs.Walks.{parts_of_walk, renditions_around, IsPartWalk};
+ghost use Rattle.ansi_split.specs.Walks.{parts_of_walk, renditions_around, IsPartWalk, IsSearchedUpTo};
 
 use crate::split::AnsiSplit;
 use crate::split::cursors::Cursor;
@@ -142,6 +142,42 @@ pub fn next_run_in<'a>(walk: &mut PartWalk<'a>) -> Option<PartRun<'a>>
         text,
         style: Some(carried),
     })
+}
+
+/// The next part of a walk, if it ends in the stretch of the text that is known to have no ESC, and no
+/// style is carried into it. After an `Err` nothing has changed; it gives the place from which the next
+/// match is still to be searched for. Doesn't allocate. (Own.)
+#[inline(always)]
+pub fn next_bare_in<'a>(walk: &mut PartWalk<'a>) -> Result<&'a str, usize>
+    requires { IsPartWalk walk.old }
+    ensures walk { IsPartWalk walk.new }
+    ensures next { MatchResult result
+        (λ bare. IsBareFirst (parts_of_walk walk.old) bare.now (parts_of_walk walk.new))
+        (λ later. (walk.new ≡ walk.old) × IsSearchedUpTo walk.old later) }
+{
+    if styles::has_any(&walk.carried.style()) {
+        return Err(walk.from);
+    }
+    let (bare, at) = walk.cursor().first_in_run(walk.pattern())?;
+    walk.rest = at.rest.text().as_bytes();
+    walk.run_len = at.rest.run_len();
+    walk.skip = at.skip;
+    walk.from = at.from;
+    walk.finished = at.finished;
+    Ok(bare)
+}
+
+/// A walk that has the same parts left, and searches for the next match from a place on. (Own.)
+#[inline(always)]
+pub fn searched_up_to<'a>(walk: &PartWalk<'a>, later: usize) -> PartWalk<'a>
+    requires walk { IsPartWalk walk.now }
+    requires searched { IsSearchedUpTo walk.now later }
+    ensures walk { IsPartWalk result }
+    ensures parts { parts_of_walk result ≡ parts_of_walk walk.now }
+{
+    let mut searched = *walk;
+    searched.from = later;
+    searched
 }
 
 /// The first part of a walk, if it is written from one stretch of the text, and the walk after it.

@@ -6,7 +6,7 @@ ghost use Rattle.ansi_search.specs.Positions.{is_char_boundary};
 use crate::split::rest::Rest;
 
 /// What is left of a text that is split, without the style there.
-#[derive(Drop)]
+#[derive(Clone, Copy)]
 pub(crate) struct Cursor<'t> {
     /// The match before and all after it.
     pub(crate) rest: Rest<'t>,
@@ -20,9 +20,10 @@ pub(crate) struct Cursor<'t> {
 }
 
 impl<'t> Cursor<'t> {
-    ghost use Rattle.std.specs.Prelude.{◌≡◌, false, ◌∷◌, length, max, IsFalse, IfSome};
+    ghost use Rattle.std.specs.Prelude.{◌≡◌, false, ◌∷◌, length, max, IsFalse, IfSome, MatchResult};
     ghost use Rattle.std.specs.Option.{MatchOption};
     ghost use Rattle.ansi_items.specs.Plain.{has_escape};
+    ghost use Rattle.ansi_search.specs.Matches.{first_match_from};
     ghost use Rattle.ansi_style.specs.declared.state.rendition.Rendition.{Rendition};
     ghost use Rattle.ansi_split.specs.Spans.{span_part};
     ghost use Rattle.ansi_split.specs.Cursors.{parts_at};
@@ -69,22 +70,41 @@ impl<'t> Cursor<'t> {
             (λ run. parts_at c self.old pat.now
             ≡ span_part c run.now 0 ∷ parts_at c self.new pat.now) }
     {
-        if self.finished {
-            return None;
-        }
-        match self.rest.cut_in_run(pat, self.from) {
-            Ok((front, rest)) => {
-                let run = &front[self.skip..];
-                *self = Cursor::after_match(rest, pat);
+        match self.first_in_run(pat) {
+            Ok((run, after)) => {
+                *self = after;
                 Some(run)
             }
             Err(later) => {
+                self.from = later;
+                None
+            }
+        }
+    }
+
+    /// The same text, and what is left after it. `Err` means that the part doesn't end there; it gives
+    /// the place from which the next match is still to be searched for.
+    #[inline(always)]
+    pub(crate) fn first_in_run(&self, pat: &str) -> Result<(&'t str, Self), usize>
+        ensures { MatchResult result
+            (λ first. IsFalse (has_escape first.0.now) × ((c : Rendition) →
+            parts_at c self.now pat.now ≡ span_part c first.0.now 0 ∷ parts_at c first.1 pat.now))
+            (λ later. (self.now.from ≤ later)
+            × (first_match_from (plain self.now.rest.text.now) pat.now later
+            ≡ first_match_from (plain self.now.rest.text.now) pat.now self.now.from)) }
+    {
+        if self.finished {
+            return Err(self.from);
+        }
+        match self.rest.cut_in_run(pat, self.from) {
+            Ok((front, rest)) => Ok((&front[self.skip..], Cursor::after_match(rest, pat))),
+            Err(later) => {
                 if pat.is_empty() || !self.rest.is_run() {
-                    self.from = later;
-                    return None;
+                    return Err(later);
                 }
-                self.finished = true;
-                Some(&self.rest.text()[self.skip..])
+                let mut end = *self;
+                end.finished = true;
+                Ok((&self.rest.text()[self.skip..], end))
             }
         }
     }

@@ -30,7 +30,7 @@ pub(super) struct MatchSplit<'t> {
 
 /// What is left of a text, and how many bytes at its front are known to be plain. So if a run has
 /// many matches, its end isn't searched for at each of them.
-#[derive(Drop)]
+#[derive(Clone, Copy)]
 pub(crate) struct Rest<'t> {
     text: &'t str,
     run_len: usize,
