@@ -6,7 +6,7 @@ ghost use Rattle.ansi_str.specs.Blocks.{sequences_before};
 ghost use Rattle.ansi_str.specs.States.{rendition_of, rendition_of_numbers};
 ghost use Rattle.ansi_str.specs.Written.{start, close, close_if_any};
 ghost use Rattle.ansi_split.specs.Spans.{dressed_stretch};
-ghost use Rattle.ansi_split.specs.Walks.{renditions_around, IsPartWalk};
+ghost use Rattle.ansi_split.specs.Walks.{renditions_around, IsPartWalk, IsSearchedUpTo};
 ghost use Rattle.ansi_style.specs.declared.styles.TheConstants.{SHORT};
 ghost use Rattle.ansi_text_calls.specs.Answers.{no, Gives, IsWritten};
 ghost use Rattle.ansi_text_calls.specs.Walks.{IsOver, GivesNext, GivesNextPart};
@@ -16,7 +16,9 @@ use crate::answers::{Answer, NO, NOT_UTF8, OK, OUT_OF_MEMORY, TOO_SMALL, write, 
 use crate::lists::put;
 use ansi_blocks::runs::{Run, first_styled_run, sequences_before};
 use ansi_safe::utf8::from_utf8;
-use ansi_split::walks::{Around, PartWalk, first_stretch, is_over, next_in, next_run_in, walk_in};
+use ansi_split::walks::{
+    Around, PartWalk, first_stretch, is_over, next_bare_in, next_in, searched_up_to, walk_in,
+};
 use ansi_style::numbers::StyleNumbers;
 use ansi_style::state::Style;
 use ansi_style::styles;
@@ -194,44 +196,38 @@ pub fn parts_next<'a, A: Allocator + Copy>(
     ensures walk { IsPartWalk walk.new }
     ensures next { GivesNextPart walk.old walk.new part.old part.new result buffer.old buffer.new }
 {
-    let before = *walk;
-    let Some(run) = next_run_in(walk) else {
-        let answer = marked_part(alloc, walk, part, buffer);
-        if answer.status != OK {
-            *walk = before;
+    match next_bare_in(walk) {
+        Ok(bare) => {
+            *part = NextPart {
+                text: bare.as_bytes(),
+            };
+            Answer::done(0)
         }
-        return answer;
-    };
-    let Some(style) = run.style else {
-        *part = NextPart {
-            text: run.text.as_bytes(),
-        };
-        return Answer::done(0);
-    };
-    let answer = write_run(alloc, run.text, &style, buffer);
-    if answer.status != OK {
-        *walk = before;
+        Err(later) => marked_part(alloc, walk, later, part, buffer),
     }
-    answer
 }
 
-/// Takes the next part off a walk, if that doesn't end in the stretch that is known to have no ESC.
-/// Allocates only if a sequence is in the match before the part, or if the start or the close that
-/// is written has more than `SHORT` bytes.
+/// Takes the next part off a walk that has searched for the next match up to `later`, also if a style
+/// is carried into the part or it has a sequence. Allocates only if a sequence is in the match before
+/// the part, or if the start or the close that is written has more than `SHORT` bytes. It is a function
+/// of its own, so that a part without a style needs no room for these.
+#[inline(never)]
 fn marked_part<'a, A: Allocator + Copy>(
     alloc: A,
     walk: &mut PartWalk<'a>,
+    later: usize,
     part: &mut NextPart<'a>,
     buffer: &mut [u8],
 ) -> Answer
-    requires { IsPartWalk walk.old }
+    requires walk { IsPartWalk walk.old }
+    requires searched { IsSearchedUpTo walk.old later }
     ensures walk { IsPartWalk walk.new }
     ensures next { GivesNextPart walk.old walk.new part.old part.new result buffer.old buffer.new }
 {
     if is_over(walk) {
         return Answer::failed(NO);
     }
-    let Some((stretch, left)) = first_stretch(walk) else {
+    let Some((stretch, left)) = first_stretch(&searched_up_to(walk, later)) else {
         return walked_part(alloc, walk, part, buffer);
     };
     let Some(around) = stretch.around else {
@@ -311,30 +307,6 @@ fn walked_part<'a, A: Allocator + Copy>(
         *walk = before;
     }
     answer
-}
-
-/// Writes a text between the start and the close of a style. Allocates only if one of them has more
-/// than `SHORT` bytes.
-fn write_run<A: Allocator>(alloc: A, text: &str, style: &Style, buffer: &mut [u8]) -> Answer
-    ensures { Gives no true (Some (start (rendition_of style.now) ++ text.now
-        ++ close (rendition_of style.now))) result buffer.old buffer.new }
-{
-    let (Some(start), Some(close)) = (styles::short_start(style), styles::short_close(style)) else {
-        return write_made(styled(alloc, text, style), buffer);
-    };
-    write_between(start.as_str(), text, close.as_str(), buffer)
-}
-
-/// A text between the start and the close of a style. `Err` means out of memory.
-fn styled<A: Allocator>(alloc: A, text: &str, style: &Style) -> Result<String<A>, AllocError>
-    ensures { IfOk result (λ s. string_bytes s
-        ≡ start (rendition_of style.now) ++ text.now ++ close (rendition_of style.now)) }
-{
-    let mut out = styles::with_room(alloc, style, text.len(), style)?;
-    styles::write_start(style, &mut out)?;
-    out.push_str(text)?;
-    styles::write_close(style, &mut out)?;
-    Ok(out)
 }
 
 /// Writes a text between two short ones, if there is room for all three.

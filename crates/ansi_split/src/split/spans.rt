@@ -173,10 +173,22 @@ fn past_plain(text: &str, is_marked: bool, skip: usize) -> Option<&str>
     ensures { IfSome result (λ rest. rest.now
         ≡ interleaved (plain text.now) skip (length (plain text.now)) (marks text.now)) }
 {
-    if is_marked && memchr(ESC, &text.as_bytes()[..skip]).is_some() {
+    if is_marked && has_escape(&text.as_bytes()[..skip]) {
         return None;
     }
     Some(&text[skip..])
+}
+
+/// Whether some bytes have an ESC. Most patterns have one byte, which is looked at by itself.
+#[inline(always)]
+fn has_escape(bytes: &[u8]) -> bool
+    ensures { IsFalse result → IsFalse (has_escape bytes.now) }
+{
+    match bytes {
+        [] => false,
+        [byte] => *byte == ESC,
+        _ => memchr(ESC, bytes).is_some(),
+    }
 }
 
 /// Appends a text with its sequences, but without its first `skip` plain bytes. `Err` means out of

@@ -22,10 +22,10 @@ returns-in-Ok c =
     let boundary = skip_in_bare t p s.skip s.from front after c.in-Ok.ensures.1 c.in-Ok.ensures.0 s.skip_before s.skip_ends in (
       subst (λ u. IsFalse (has_escape u)) (sym c.range_from.ensures.value) (no_escape-rest front s.skip c.in-Ok.ensures.1),
       λ r.
-      ap (λ b. if b then [] else parts_left r t p s.skip s.from) c.if-self.false
-      ∙ first_in_run r t p s.skip s.from front after c.in-Ok.ensures.1 c.in-Ok.ensures.0 boundary
-      ∙ ap (λ u. span_part r u 0 ∷ parts_left r after p (length p) (max (length p) 1)) (sym c.range_from.ensures.value)
-      ∙ ap (λ ps. span_part r c.range_from.result.now 0 ∷ ps) (sym (parts_at-is r c.after_match.result after p (length p) (max (length p) 1) next.finished next.text next.skip next.from)),
+          ap (λ b. if b then [] else parts_left r t p s.skip s.from) c.if-self.false
+          ∙ first_in_run r t p s.skip s.from front after c.in-Ok.ensures.1 c.in-Ok.ensures.0 boundary
+          ∙ ap (λ u. span_part r u 0 ∷ parts_left r after p (length p) (max (length p) 1)) (sym c.range_from.ensures.value)
+          ∙ ap (λ ps. span_part r c.range_from.result.now 0 ∷ ps) (sym (parts_at-is r c.after_match.result after p (length p) (max (length p) 1) next.finished next.text next.skip next.from)),
     )
 
 -- the text ends the part
@@ -48,7 +48,7 @@ returns-else-not-is_run c =
     let run = c.range_from-in-Err.ensures.value ∙ ap (drop s.skip) c.text.ensures in (
       subst (λ u. IsFalse (has_escape u)) (sym run) (no_escape-rest t s.skip none),
       λ r.
-      ap (λ b. if b then [] else parts_left r t p s.skip s.from) c.if-self.false
-      ∙ last_in_run r t p s.skip s.from none last (boundary-bare t s.skip none s.skip_ends)
-      ∙ ap (λ u. span_part r u 0 ∷ []) (sym run),
+          ap (λ b. if b then [] else parts_left r t p s.skip s.from) c.if-self.false
+          ∙ last_in_run r t p s.skip s.from none last (boundary-bare t s.skip none s.skip_ends)
+          ∙ ap (λ u. span_part r u 0 ∷ []) (sym run),
     )
