@@ -1,12 +1,14 @@
 //! Splits that are paused, in memory that isn't Rattle's. They have a module of their own, since
 //! `ansi_str` passes `split` on.
-ghost use Rattle.std.specs.Prelude.{◌≡◌, ◌↔◌, ◌∷◌, [], IsTrue, IsFalse, IfSome, MatchResult};
+ghost use Rattle.std.specs.Prelude.{◌≡◌, ◌↔◌, ◌∷◌, [], None, IsTrue, IsFalse, IfSome, MatchResult};
 ghost use Rattle.std.specs.Option.{MatchOption, option_map};
 ghost use Rattle.ansi_items.specs.Plain.{has_escape};
+ghost use Rattle.ansi_style.specs.Rendition.{has_any};
 ghost use Rattle.ansi_style.specs.States.{rendition_of, rendition_of_numbers};
-ghost use Rattle.ansi_split.specs.Spans.{span_part, IsBareFirst, IsRunFirst, IsStretchFirst};
+ghost use Rattle.ansi_split.specs.Spans.{span_part, IsRunFirst, IsStretchFirst};
 ghost use Rattle.ansi_split.specs.Splits.{split_parts, GivesPart};
-ghost use Rattle.ansi_split.specs.Walks.{parts_of_walk, renditions_around, IsPartWalk, IsSearchedUpTo};
+ghost use Rattle.ansi_split.specs.Walks.{parts_of_walk, parts_after, renditions_around, IsPartWalk};
+ghost use Rattle.ansi_split.specs.Walks.{IsSearchedUpTo};
 
 use crate::split::AnsiSplit;
 use crate::split::cursors::Cursor;
@@ -33,6 +35,8 @@ pub struct PartWalk<'a> {
     pub(crate) from: usize,
     pub(crate) carried: StyleNumbers,
     pub(crate) finished: bool,
+    /// Whether the style that is carried has anything to reset.
+    pub(crate) is_styled: bool,
 }
 
 impl<'a> PartWalk<'a> {
@@ -144,40 +148,98 @@ pub fn next_run_in<'a>(walk: &mut PartWalk<'a>) -> Option<PartRun<'a>>
     })
 }
 
-/// The next part of a walk, if it ends in the stretch of the text that is known to have no ESC, and no
-/// style is carried into it. After an `Err` nothing has changed; it gives the place from which the next
+/// What a walk has left after a part that ends in the stretch of the text that is known to have no ESC.
+/// In contracts, with the walk, it is the list of the parts left, by `parts_after`. (Own.)
+#[derive(Clone, Copy)]
+pub struct AfterRun<'a> {
+    at: Cursor<'a>,
+}
+
+/// The first part of a walk, if it ends in the stretch of the text that is known to have no ESC, and
+/// what is left after it. `Err` means that it doesn't; it gives the place from which the next match is
+/// still to be searched for. Doesn't allocate. (Own.)
+#[inline(always)]
+pub fn first_run<'a>(walk: &PartWalk<'a>) -> Result<(PartRun<'a>, AfterRun<'a>), usize>
+    requires { IsPartWalk walk.now }
+    ensures { MatchResult result
+        (λ first. IsRunFirst (parts_of_walk walk.now) (option_map rendition_of first.0.style)
+        first.0.text.now (parts_after walk.now first.1))
+        (λ later. IsSearchedUpTo walk.now later) }
+{
+    let (text, at) = walk.cursor().first_in_run(walk.pattern())?;
+    if text.is_empty() || !walk.is_styled {
+        return Ok((PartRun { text, style: None }, AfterRun { at }));
+    }
+    let style = Some(walk.carried.style());
+    Ok((PartRun { text, style }, AfterRun { at }))
+}
+
+/// Whether the style that is carried into the next part of a walk has anything to reset. (Own.)
+pub fn is_styled(walk: &PartWalk<'_>) -> bool
+    requires { IsPartWalk walk.now }
+    ensures { result ≡ has_any (rendition_of_numbers walk.now.carried) }
+{
+    walk.is_styled
+}
+
+/// The next part of a walk into which no style is carried, if it ends in the stretch of the text that
+/// is known to have no ESC. After an `Err` nothing has changed; it gives the place from which the next
 /// match is still to be searched for. Doesn't allocate. (Own.)
 #[inline(always)]
 pub fn next_bare_in<'a>(walk: &mut PartWalk<'a>) -> Result<&'a str, usize>
-    requires { IsPartWalk walk.old }
+    requires walk { IsPartWalk walk.old }
+    requires plain { IsFalse (has_any (rendition_of_numbers walk.old.carried)) }
     ensures walk { IsPartWalk walk.new }
     ensures next { MatchResult result
-        (λ bare. IsBareFirst (parts_of_walk walk.old) bare.now (parts_of_walk walk.new))
+        (λ bare. IsRunFirst (parts_of_walk walk.old) None bare.now (parts_of_walk walk.new))
         (λ later. (walk.new ≡ walk.old) × IsSearchedUpTo walk.old later) }
 {
-    if styles::has_any(&walk.carried.style()) {
-        return Err(walk.from);
-    }
     let (bare, at) = walk.cursor().first_in_run(walk.pattern())?;
+    go_on(walk, AfterRun { at });
+    Ok(bare)
+}
+
+/// Takes the first part off a walk, after which this is left. (Own.)
+#[inline(always)]
+pub fn go_on<'a>(walk: &mut PartWalk<'a>, after: AfterRun<'a>)
+    requires { IsPartWalk walk.old }
+    ensures walk { IsPartWalk walk.new }
+    ensures parts { parts_of_walk walk.new ≡ parts_after walk.old after.entry }
+{
+    let at = after.at;
     walk.rest = at.rest.text().as_bytes();
     walk.run_len = at.rest.run_len();
     walk.skip = at.skip;
     walk.from = at.from;
     walk.finished = at.finished;
-    Ok(bare)
 }
 
-/// A walk that has the same parts left, and searches for the next match from a place on. (Own.)
+/// The parts that a walk has left, as a split, which searches for the next match from a place on. (Own.)
 #[inline(always)]
-pub fn searched_up_to<'a>(walk: &PartWalk<'a>, later: usize) -> PartWalk<'a>
+pub fn split_of_walk<'a, A: Allocator>(
+    alloc: A,
+    walk: &PartWalk<'a>,
+    later: usize,
+) -> AnsiSplit<'a, A>
     requires walk { IsPartWalk walk.now }
     requires searched { IsSearchedUpTo walk.now later }
-    ensures walk { IsPartWalk result }
-    ensures parts { parts_of_walk result ≡ parts_of_walk walk.now }
+    ensures { result ≡ parts_of_walk walk.now }
 {
     let mut searched = *walk;
     searched.from = later;
-    searched
+    AnsiSplit {
+        alloc,
+        spans: PartSpans::of(&searched),
+    }
+}
+
+/// A walk that has the parts left that a split has left. (Own.)
+#[inline(always)]
+pub fn walk_of_split<'a, A: Allocator>(parts: &AnsiSplit<'a, A>) -> PartWalk<'a>
+    ensures walk { IsPartWalk result }
+    ensures parts { parts_of_walk result ≡ parts.now }
+{
+    parts.spans.walk()
 }
 
 /// The first part of a walk, if it is written from one stretch of the text, and the walk after it.
@@ -207,6 +269,16 @@ pub fn next_stretch_in<'a, A: Allocator + Copy>(
         return Some(Some(PartStretch { text, around: None }));
     }
     Some(parts.spans.next()?.stretch())
+}
+
+/// The next part that a split returns, if it is written from one stretch of the text. `None` says
+/// nothing. Doesn't allocate. (Own.)
+#[inline(always)]
+pub fn next_marked_in<'a, A: Allocator>(parts: &mut AnsiSplit<'a, A>) -> Option<PartStretch<'a>>
+    ensures { IfSome result (λ s. IsStretchFirst parts.old (renditions_around s.around) s.text.now
+        parts.new) }
+{
+    parts.spans.next()?.stretch()
 }
 
 /// The next part of a walk, as [`split_in`] returns it. (Own.)

@@ -17,7 +17,8 @@ use crate::lists::put;
 use ansi_blocks::runs::{Run, first_styled_run, sequences_before};
 use ansi_safe::utf8::from_utf8;
 use ansi_split::walks::{
-    Around, PartWalk, first_stretch, is_over, next_bare_in, next_in, searched_up_to, walk_in,
+    Around, PartWalk, first_run, go_on, is_over, is_styled, next_bare_in, next_in, next_marked_in,
+    split_of_walk, walk_in, walk_of_split,
 };
 use ansi_style::numbers::StyleNumbers;
 use ansi_style::state::Style;
@@ -196,6 +197,12 @@ pub fn parts_next<'a, A: Allocator + Copy>(
     ensures walk { IsPartWalk walk.new }
     ensures next { GivesNextPart walk.old walk.new part.old part.new result buffer.old buffer.new }
 {
+    if is_over(walk) {
+        return Answer::failed(NO);
+    }
+    if is_styled(walk) {
+        return styled_part(alloc, walk, part, buffer);
+    }
     match next_bare_in(walk) {
         Ok(bare) => {
             *part = NextPart {
@@ -207,10 +214,40 @@ pub fn parts_next<'a, A: Allocator + Copy>(
     }
 }
 
-/// Takes the next part off a walk that has searched for the next match up to `later`, also if a style
-/// is carried into the part or it has a sequence. Allocates only if a sequence is in the match before
-/// the part, or if the start or the close that is written has more than `SHORT` bytes. It is a function
-/// of its own, so that a part without a style needs no room for these.
+/// Takes the next part off a walk, also if a style is carried into it. (Not inlined, as `marked_part`.)
+#[inline(never)]
+fn styled_part<'a, A: Allocator + Copy>(
+    alloc: A,
+    walk: &mut PartWalk<'a>,
+    part: &mut NextPart<'a>,
+    buffer: &mut [u8],
+) -> Answer
+    requires { IsPartWalk walk.old }
+    ensures walk { IsPartWalk walk.new }
+    ensures next { GivesNextPart walk.old walk.new part.old part.new result buffer.old buffer.new }
+{
+    let (run, after) = match first_run(walk) {
+        Ok(first) => first,
+        Err(later) => return marked_part(alloc, walk, later, part, buffer),
+    };
+    let Some(style) = run.style else {
+        go_on(walk, after);
+        *part = NextPart {
+            text: run.text.as_bytes(),
+        };
+        return Answer::done(0);
+    };
+    let answer = write_run(alloc, run.text, &style, buffer);
+    if answer.status == OK {
+        go_on(walk, after);
+    }
+    answer
+}
+
+/// Takes the next part off a walk, if that doesn't end in the stretch that is known to have no ESC. The
+/// next match is searched for from `later` on. Allocates only if a sequence is in the match before the
+/// part, or if the start or the close that is written has more than `SHORT` bytes. (Not inlined, since
+/// most parts need none of its room.)
 #[inline(never)]
 fn marked_part<'a, A: Allocator + Copy>(
     alloc: A,
@@ -224,24 +261,22 @@ fn marked_part<'a, A: Allocator + Copy>(
     ensures walk { IsPartWalk walk.new }
     ensures next { GivesNextPart walk.old walk.new part.old part.new result buffer.old buffer.new }
 {
-    if is_over(walk) {
-        return Answer::failed(NO);
-    }
-    let Some((stretch, left)) = first_stretch(&searched_up_to(walk, later)) else {
+    let mut parts = split_of_walk(alloc, walk, later);
+    let Some(stretch) = next_marked_in(&mut parts) else {
         return walked_part(alloc, walk, part, buffer);
     };
-    let Some(around) = stretch.around else {
-        *walk = left;
+    let Some(around) = &stretch.around else {
+        *walk = walk_of_split(&parts);
         *part = NextPart {
             text: stretch.text.as_bytes(),
         };
         return Answer::done(0);
     };
-    let Some(answer) = write_dressed(stretch.text, &around, buffer) else {
+    let Some(answer) = write_dressed(stretch.text, around, buffer) else {
         return walked_part(alloc, walk, part, buffer);
     };
     if answer.status == OK {
-        *walk = left;
+        *walk = walk_of_split(&parts);
     }
     answer
 }
@@ -307,6 +342,31 @@ fn walked_part<'a, A: Allocator + Copy>(
         *walk = before;
     }
     answer
+}
+
+/// Writes a text between the start and the close of a style. Allocates only if one of them has more
+/// than `SHORT` bytes.
+fn write_run<A: Allocator>(alloc: A, text: &str, style: &Style, buffer: &mut [u8]) -> Answer
+    ensures { Gives no true (Some (start (rendition_of style.now) ++ text.now
+        ++ close (rendition_of style.now))) result buffer.old buffer.new }
+{
+    let (start, close) = (styles::short_start(style), styles::short_close(style));
+    match (&start, &close) {
+        (Some(start), Some(close)) => write_between(start.as_str(), text, close.as_str(), buffer),
+        _ => write_made(styled(alloc, text, style), buffer),
+    }
+}
+
+/// A text between the start and the close of a style. `Err` means out of memory.
+fn styled<A: Allocator>(alloc: A, text: &str, style: &Style) -> Result<String<A>, AllocError>
+    ensures { IfOk result (λ s. string_bytes s
+        ≡ start (rendition_of style.now) ++ text.now ++ close (rendition_of style.now)) }
+{
+    let mut out = styles::with_room(alloc, style, text.len(), style)?;
+    styles::write_start(style, &mut out)?;
+    out.push_str(text)?;
+    styles::write_close(style, &mut out)?;
+    Ok(out)
 }
 
 /// Writes a text between two short ones, if there is room for all three.

@@ -208,12 +208,16 @@ fn next_start(text: &str, run_len: usize, pat: &str, from: usize) -> usize
     run_len
 }
 
-/// Whether a match may begin in a run and go on after it: whether the pattern's first byte is one
-/// of the last bytes of the run, those that too few bytes follow for a match.
+/// Whether a match may begin in a run and go on after it: whether the pattern has several bytes, and
+/// its first one is one of the last bytes of the run, those that too few bytes follow for a match.
+#[inline(always)]
 fn may_go_on(run: &str, pat: &str) -> bool
     ensures { IsFalse result → (y : List ℕ) (i : ℕ) → i < length run.now →
         IsTrue (is_match (run.now ++ y) pat.now i) → i + length pat.now ≤ length run.now }
 {
+    if pat.len() == 1 {
+        return false;
+    }
     let Some(first) = pat.as_bytes().first() else {
         return false;
     };

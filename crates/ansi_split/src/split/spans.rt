@@ -308,6 +308,7 @@ impl<'t> PartSpans<'t, 't> {
             from: self.at.from,
             carried: StyleNumbers::of(&self.carried),
             finished: self.at.finished,
+            is_styled: styles::has_any(&self.carried),
         }
     }
 }
