@@ -85,8 +85,11 @@ fn put_stretch(
     if adds_nothing(around) {
         return Some(put_text(stretch.text.as_bytes(), copied, buffer, ends));
     }
-    let start = short_start(&around.before)?;
-    let close = close_if_any(&around.after)?;
+    let start = short_start(&around.before);
+    let close = close_if_any(&around.after);
+    let (Some(start), Some(close)) = (&start, &close) else {
+        return None;
+    };
     put_between(
         start.as_str(),
         stretch.text,

@@ -214,8 +214,7 @@ pub fn parts_next<'a, A: Allocator + Copy>(
     }
 }
 
-/// Takes the next part off a walk, also if a style is carried into it. (Not inlined, as `marked_part`.)
-#[inline(never)]
+/// Takes the next part off a walk, also if a style is carried into it.
 fn styled_part<'a, A: Allocator + Copy>(
     alloc: A,
     walk: &mut PartWalk<'a>,
@@ -291,8 +290,11 @@ fn write_dressed(text: &str, around: &Around, buffer: &mut [u8]) -> Option<Answe
     if adds_nothing(around) {
         return Some(write(text.as_bytes(), buffer));
     }
-    let start = short_start(&around.before)?;
-    let close = close_if_any(&around.after)?;
+    let start = short_start(&around.before);
+    let close = close_if_any(&around.after);
+    let (Some(start), Some(close)) = (&start, &close) else {
+        return None;
+    };
     Some(write_between(start.as_str(), text, close.as_str(), buffer))
 }
 
@@ -350,11 +352,12 @@ fn write_run<A: Allocator>(alloc: A, text: &str, style: &Style, buffer: &mut [u8
     ensures { Gives no true (Some (start (rendition_of style.now) ++ text.now
         ++ close (rendition_of style.now))) result buffer.old buffer.new }
 {
-    let (start, close) = (styles::short_start(style), styles::short_close(style));
-    match (&start, &close) {
-        (Some(start), Some(close)) => write_between(start.as_str(), text, close.as_str(), buffer),
-        _ => write_made(styled(alloc, text, style), buffer),
-    }
+    let start = styles::short_start(style);
+    let close = styles::short_close(style);
+    let (Some(start), Some(close)) = (&start, &close) else {
+        return write_made(styled(alloc, text, style), buffer);
+    };
+    write_between(start.as_str(), text, close.as_str(), buffer)
 }
 
 /// A text between the start and the close of a style. `Err` means out of memory.
