@@ -20,7 +20,7 @@ pub(crate) struct Cursor<'t> {
 }
 
 impl<'t> Cursor<'t> {
-    ghost use Rattle.std.specs.Prelude.{◌≡◌, false, ◌∷◌, length, max, IsFalse, IfSome, MatchResult};
+    ghost use Rattle.std.specs.Prelude.{◌≡◌, false, true, ◌∷◌, length, max, IsFalse, IfSome, MatchResult};
     ghost use Rattle.std.specs.Option.{MatchOption};
     ghost use Rattle.ansi_items.specs.Plain.{has_escape};
     ghost use Rattle.ansi_search.specs.Matches.{first_match_from};
@@ -57,6 +57,19 @@ impl<'t> Cursor<'t> {
             skip: pat.len(),
             from: pat.len().max(1),
             finished: false,
+        }
+    }
+
+    /// The same, with no part left.
+    #[inline(always)]
+    fn end(&self) -> Self
+        ensures { result.finished ≡ true }
+    {
+        Cursor {
+            rest: self.rest,
+            skip: self.skip,
+            from: self.from,
+            finished: true,
         }
     }
 
@@ -102,9 +115,8 @@ impl<'t> Cursor<'t> {
                 if pat.is_empty() || !self.rest.is_run() {
                     return Err(later);
                 }
-                let mut end = *self;
-                end.finished = true;
-                Ok((&self.rest.text()[self.skip..], end))
+                let run = &self.rest.text()[self.skip..];
+                Ok((run, self.end()))
             }
         }
     }

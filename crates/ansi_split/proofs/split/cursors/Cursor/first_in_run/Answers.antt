@@ -30,8 +30,8 @@ returns-in-Ok c =
 
 -- the text ends the part
 
-pub range_from-requires-in-Err : goal.range_from-requires-in-Err
-range_from-requires-in-Err c =
+pub range_from-run-requires : goal.range_from-run-requires
+range_from-run-requires c =
     let s = c.args.self.now in
     let none = bare_if_run s.rest.text.now s.rest.run_len s.rest.run_is_plain (c.is_run.ensures c.if-not-is_run.false) in
     λ some. rw c.text.ensures (boundary-bare s.rest.text.now s.skip none s.skip_ends)
@@ -45,10 +45,12 @@ returns-else-not-is_run c =
     let none = bare_if_run t s.rest.run_len s.rest.run_is_plain whole in
     let some : 0 < length p = omega (arith, eqb-false _ 0 (sym c.is_empty.ensures ∙ c.if-is_empty.false)) in
     let last : first_match_from (plain t) p s.from ≡ None = sym c.in-Err.ensures.2 ∙ no_match_past t p c.in-Err.later none some (omega (arith, whole, c.in-Err.ensures.1)) in
-    let run = c.range_from-in-Err.ensures.value ∙ ap (drop s.skip) c.text.ensures in (
+    let end = c.end.result in
+    let run = c.range_from-run.ensures.value ∙ ap (drop s.skip) c.text.ensures in (
       subst (λ u. IsFalse (has_escape u)) (sym run) (no_escape-rest t s.skip none),
       λ r.
           ap (λ b. if b then [] else parts_left r t p s.skip s.from) c.if-self.false
           ∙ last_in_run r t p s.skip s.from none last (boundary-bare t s.skip none s.skip_ends)
-          ∙ ap (λ u. span_part r u 0 ∷ []) (sym run),
+          ∙ ap (λ u. span_part r u 0 ∷ []) (sym run)
+          ∙ ap (λ b. span_part r c.range_from-run.result.now 0 ∷ (if b then [] else parts_left r end.rest.text.now p end.skip end.from)) (sym c.end.ensures),
     )
