@@ -127,27 +127,6 @@ pub fn is_over(walk: &PartWalk<'_>) -> bool
     walk.finished
 }
 
-/// The next part of a walk, if it ends in the stretch of the text that is known to have no ESC. After
-/// `None` the same parts are left. Doesn't allocate. (Own.)
-#[inline(always)]
-pub fn next_run_in<'a>(walk: &mut PartWalk<'a>) -> Option<PartRun<'a>>
-    requires { IsPartWalk walk.old }
-    ensures walk { IsPartWalk walk.new }
-    ensures next { MatchOption result (parts_of_walk walk.new ≡ parts_of_walk walk.old)
-        (λ run. IsRunFirst (parts_of_walk walk.old) (option_map rendition_of run.style)
-        run.text.now (parts_of_walk walk.new)) }
-{
-    let text = walk.next_run()?;
-    let carried = walk.carried.style();
-    if text.is_empty() || !styles::has_any(&carried) {
-        return Some(PartRun { text, style: None });
-    }
-    Some(PartRun {
-        text,
-        style: Some(carried),
-    })
-}
-
 /// What a walk has left after a part that ends in the stretch of the text that is known to have no ESC.
 /// In contracts, with the walk, it is the list of the parts left, by `parts_after`. (Own.)
 #[derive(Clone, Copy)]
@@ -240,20 +219,6 @@ pub fn walk_of_split<'a, A: Allocator>(parts: &AnsiSplit<'a, A>) -> PartWalk<'a>
     ensures parts { parts_of_walk result ≡ parts.now }
 {
     parts.spans.walk()
-}
-
-/// The first part of a walk, if it is written from one stretch of the text, and the walk after it.
-/// `None` says nothing. Doesn't allocate. (Own.)
-#[inline(always)]
-pub fn first_stretch<'a>(walk: &PartWalk<'a>) -> Option<(PartStretch<'a>, PartWalk<'a>)>
-    requires { IsPartWalk walk.now }
-    ensures walk { IfSome result (λ r. IsPartWalk r.1) }
-    ensures first { IfSome result (λ r. IsStretchFirst (parts_of_walk walk.now)
-        (renditions_around r.0.around) r.0.text.now (parts_of_walk r.1)) }
-{
-    let mut spans = PartSpans::of(walk);
-    let stretch = spans.next()?.stretch()?;
-    Some((stretch, spans.walk()))
 }
 
 /// The next part that a split returns, if it is written from one stretch of the text. `None` in `Some`
