@@ -50,6 +50,6 @@ pub use Rattle.ansi_style.specs.Styled.{StyledByte, unstyled, residue, style_aft
 pub use Rattle.ansi_style.specs.Written.{close, close_codes, close_if_any, color_code, color_codes, font_codes, longest_close, longest_start, longest_start_and_close, start, start_codes, code_if, written, written_all}
 pub use Rattle.ansi_style.specs.declared.state.Style.{Style}
 pub use Rattle.ansi_style.specs.declared.state.attributes.Attributes.{Attributes}
-pub use Rattle.ansi_style.specs.declared.state.attributes.TheConstants.Attributes.{ENDS, FRAMES, IDEOGRAM, INTENSITY, LETTERS, SHAPES}
+pub use Rattle.ansi_style.specs.declared.state.attributes.TheConstants.Attributes.{ENDS, FRAMES, IDEOGRAM, INTENSITY, LETTERS, RARE, SHAPES}
 pub use Rattle.ansi_style.specs.declared.state.written.TheConstants.{CLOSE_ENDS, CLOSE_FRAMES, CLOSE_LETTERS, START_FRAMES, START_INTENSITY, START_LETTERS, START_SHAPES}
 pub use Rattle.ansi_style.specs.declared.style.color.Color.TheVariants.{Black, Blue, BrightBlack, BrightBlue, BrightCyan, BrightGreen, BrightMagenta, BrightRed, BrightWhite, BrightYellow, Cyan, Fixed, Green, Magenta, Red, Rgb, White, Yellow}

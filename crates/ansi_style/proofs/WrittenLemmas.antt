@@ -1,5 +1,5 @@
 -- What the code writes for a start and a close, row by row, as the definitions have it.
-use Rattle.ansi_style.proofs.Common.{◌≡◌, ℕ, Bool, true, false, List, [], ◌∷◌, ◌++◌, ◌&&◌, ◌||◌, ◌==◌, ◌+◌, ◌^◌, not, is_some, codes, refl, sym, ◌∙◌, ap, ap₂, append_assoc, append-nil, bit_and, nat_lt, if◌then◌else◌, or-false, flat_map-append, and_assoc, flat_map, Style, Attributes, INTENSITY, LETTERS, SHAPES, FRAMES, ENDS, IDEOGRAM, START_INTENSITY, START_LETTERS, START_SHAPES, START_FRAMES, CLOSE_LETTERS, CLOSE_FRAMES, CLOSE_ENDS, has, has_one, rendition_of, written, written_all, code_if, color_codes, font_codes, start_codes, close_codes, start, close}
+use Rattle.ansi_style.proofs.Common.{◌≡◌, ℕ, Bool, true, false, List, [], ◌∷◌, ◌++◌, ◌&&◌, ◌||◌, ◌==◌, ◌+◌, ◌^◌, not, is_some, codes, refl, sym, ◌∙◌, ap, ap₂, append_assoc, append-nil, bit_and, nat_lt, if◌then◌else◌, or-false, flat_map-append, and_assoc, flat_map, Style, Attributes, INTENSITY, LETTERS, SHAPES, FRAMES, ENDS, IDEOGRAM, RARE, START_INTENSITY, START_LETTERS, START_SHAPES, START_FRAMES, CLOSE_LETTERS, CLOSE_FRAMES, CLOSE_ENDS, has, has_one, not-not, eqb-true, None, Option, Some, true≢false, rendition_of, written, written_all, code_if, color_codes, font_codes, start_codes, close_codes, start, close}
 use Rattle.ansi_style.specs.Numbers.{color_of_numbers, font_of_word}
 use Rattle.ansi_style.proofs.BitsLemmas.{has_one-places, has_one_in_last}
 
@@ -170,3 +170,36 @@ close_by_rows s =
     before Writes-row (codes "0") (has_one-at_place n ENDS.0 23 refl refl refl)
     before Writes-nil)
     (close_codes (rendition_of s)) refl
+
+-- A style without a font in which at most intensity, colors, `reset` and an unknown code are set.
+
+no_some : {A : Type 0} (o : Option A) → is_some o ≡ false → o ≡ None
+no_some None unset = refl
+no_some (Some x) unset = absurd (true≢false unset)
+
+-- the set has none of these attributes
+none_of : (set attributes : ℕ) → has_one set RARE.0 ≡ false → bit_and RARE.0 attributes ≡ attributes → bit_and set attributes ≡ 0
+none_of set attributes unset inside =
+    let none : bit_and set RARE.0 ≡ 0 = eqb-true (bit_and set RARE.0) 0 (sym (not-not (bit_and set RARE.0 == 0)) ∙ ap not unset) in
+    sym (and_assoc attributes set RARE.0 ∙ ap (bit_and set) inside) ∙ ap (λ n. bit_and n attributes) none
+
+pub start_of_common : (s : Style) → is_some (font_of_word s.attributes.0) ≡ false → has_one s.attributes.0 RARE.0 ≡ false →
+    written_rows s.attributes INTENSITY START_INTENSITY.now (λ w. w.now)
+    ++ written_all (color_codes (codes "38") (color_of_numbers s.foreground) ++ color_codes (codes "48") (color_of_numbers s.background) ++ color_codes (codes "58") (color_of_numbers s.underline_color))
+    ≡ start (rendition_of s)
+start_of_common s no_font unset =
+    let n = s.attributes.0 in
+    let colors = written_all (color_codes (codes "38") (color_of_numbers s.foreground) ++ color_codes (codes "48") (color_of_numbers s.background) ++ color_codes (codes "58") (color_of_numbers s.underline_color)) in
+    rw (none_of n LETTERS.0 unset refl, no_some (font_of_word n) no_font, none_of n SHAPES.0 unset refl, none_of n FRAMES.0 unset refl, append-nil colors) at (start_by_rows s)
+
+pub close_of_common : (s : Style) → is_some (font_of_word s.attributes.0) ≡ false → has_one s.attributes.0 RARE.0 ≡ false →
+    written_if (has s.attributes.0 23 && has s.attributes.0 22) (codes "\u{1b}[0m")
+    ++ (written_if (has_one s.attributes.0 INTENSITY.0) (codes "\u{1b}[22m")
+    ++ (written_if (is_some (color_of_numbers s.foreground)) (codes "\u{1b}[39m")
+    ++ (written_if (is_some (color_of_numbers s.background)) (codes "\u{1b}[49m")
+    ++ (written_if (is_some (color_of_numbers s.underline_color)) (codes "\u{1b}[59m")
+    ++ written_rows s.attributes ENDS CLOSE_ENDS.now (λ w. w.now)))))
+    ≡ close (rendition_of s)
+close_of_common s no_font unset =
+    let n = s.attributes.0 in
+    rw (no_font, none_of n LETTERS.0 unset refl, none_of n FRAMES.0 unset refl) at (close_by_rows s)

@@ -171,6 +171,11 @@ impl Attributes {
             | Self::SCRIPT.0,
     );
 
+    /// All but `INTENSITY`, `RESET` and `UNKNOWN`: few texts have them.
+    pub(crate) const RARE: Attributes = Attributes(
+        Self::LETTERS.0 | Self::SHAPES.0 | Self::FRAMES.0,
+    );
+
     /// The attributes that a close resets last.
     pub(crate) const ENDS: Attributes = Attributes(Self::SCRIPT.0 | Self::UNKNOWN.0);
 }

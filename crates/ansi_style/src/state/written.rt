@@ -1,11 +1,12 @@
 //! The start and the close of a style, for printing. Each code has a sequence of its own.
 ghost use Rattle.std.specs.Prelude.{◌<◌, ◌++◌, ◌∷◌, [], Some, codes, decimal, flat_map, length};
-ghost use Rattle.std.specs.Prelude.{if◌then◌else◌, IsAscii};
+ghost use Rattle.std.specs.Prelude.{if◌then◌else◌, ◌≡◌, ◌&&◌, IsAscii};
 ghost use Rattle.ansi_style.specs.Writing.{WroteOnOk, Keeps, color_front, color_sequence};
 ghost use Rattle.ansi_style.specs.Writing.{color_sequence_if_set};
-ghost use Rattle.ansi_style.specs.States.{has_one, rendition_of};
+ghost use Rattle.ansi_style.specs.States.{has, has_one, rendition_of};
 ghost use Rattle.ansi_style.specs.Written.{written, written_all, color_codes};
 ghost use Rattle.ansi_style.specs.Written.{font_codes, start, close, close_if_any};
+ghost use Rattle.ansi_items.specs.declared.ansitok.AnsiColor.TheVariants.{Bit8, Bit24};
 
 use crate::state::Style;
 use crate::state::attributes::Attributes;
@@ -146,10 +147,28 @@ const CLOSE_ENDS: Rows = &[
     (Attributes::UNKNOWN, "\u{1b}[0m"),
 ];
 
-/// Writes the start of a style.
+/// Writes the start of a style. Most styles have a color or are bold, and nothing else.
 pub(crate) fn write_start<W: Sink>(out: &mut W, style: &Style) -> fmt::Result
     ensures wrote { WroteOnOk W.took out.old result (start (rendition_of style.now))
         out.new }
+    ensures kept { Keeps W.begins out.old out.new }
+{
+    let set = style.attributes;
+    if set.has_font() | set.intersects(Attributes::RARE) {
+        return write_rare_start(out, *style);
+    }
+    write_rows(
+        out,
+        set.intersection(Attributes::INTENSITY),
+        START_INTENSITY,
+    )?;
+    write_colors(out, style)
+}
+
+/// The same for any style. It is taken by value, so that a style that isn't rare stays in registers.
+#[inline(never)]
+fn write_rare_start<W: Sink>(out: &mut W, style: Style) -> fmt::Result
+    ensures wrote { WroteOnOk W.took out.old result (start (rendition_of style)) out.new }
     ensures kept { Keeps W.begins out.old out.new }
 {
     let set = style.attributes;
@@ -161,23 +180,36 @@ pub(crate) fn write_start<W: Sink>(out: &mut W, style: &Style) -> fmt::Result
     write_rows(out, set.intersection(Attributes::LETTERS), START_LETTERS)?;
     write_font(out, set.font())?;
     write_rows(out, set.intersection(Attributes::SHAPES), START_SHAPES)?;
-    write_colors(out, style)?;
+    write_colors(out, &style)?;
     write_rows(out, set.intersection(Attributes::FRAMES), START_FRAMES)
 }
 
-/// Writes the close of a style.
+/// Writes the close of a style. Most styles have a color or are bold, and nothing else.
 pub(crate) fn write_close<W: Sink>(out: &mut W, style: &Style) -> fmt::Result
     ensures wrote { WroteOnOk W.took out.old result (close (rendition_of style.now))
         out.new }
     ensures kept { Keeps W.begins out.old out.new }
 {
     let set = style.attributes;
-    let is_unknown = set.contains(Attributes::UNKNOWN);
-    write_when(
-        out,
-        is_unknown & set.contains(Attributes::RESET),
-        "\u{1b}[0m",
-    )?;
+    if set.has_font() | set.intersects(Attributes::RARE) {
+        return write_rare_close(out, *style);
+    }
+    write_when(out, is_unknown_after_reset(set), "\u{1b}[0m")?;
+    write_when(out, set.intersects(Attributes::INTENSITY), "\u{1b}[22m")?;
+    write_when(out, style.foreground.is_some(), "\u{1b}[39m")?;
+    write_when(out, style.background.is_some(), "\u{1b}[49m")?;
+    write_when(out, style.underline_color.is_some(), "\u{1b}[59m")?;
+    write_rows(out, set.intersection(Attributes::ENDS), CLOSE_ENDS)
+}
+
+/// The same for any style. It is taken by value, so that a style that isn't rare stays in registers.
+#[inline(never)]
+fn write_rare_close<W: Sink>(out: &mut W, style: Style) -> fmt::Result
+    ensures wrote { WroteOnOk W.took out.old result (close (rendition_of style)) out.new }
+    ensures kept { Keeps W.begins out.old out.new }
+{
+    let set = style.attributes;
+    write_when(out, is_unknown_after_reset(set), "\u{1b}[0m")?;
     write_when(out, set.has_font(), "\u{1b}[10m")?;
     write_when(out, set.intersects(Attributes::INTENSITY), "\u{1b}[22m")?;
     write_rows(out, set.intersection(Attributes::LETTERS), CLOSE_LETTERS)?;
@@ -188,7 +220,16 @@ pub(crate) fn write_close<W: Sink>(out: &mut W, style: &Style) -> fmt::Result
     write_rows(out, set.intersection(Attributes::ENDS), CLOSE_ENDS)
 }
 
+/// Whether an unknown code was read after a reset. A close resets every style first then.
+#[inline(always)]
+fn is_unknown_after_reset(set: Attributes) -> bool
+    ensures { result ≡ (has set.0 23 && has set.0 22) }
+{
+    set.contains(Attributes::UNKNOWN) & set.contains(Attributes::RESET)
+}
+
 /// Writes the sequence of each row of which at least one attribute is in the set.
+#[inline(always)]
 fn write_rows<W: Sink>(out: &mut W, set: Attributes, rows: &[(Attributes, &str)]) -> fmt::Result
     ensures wrote { WroteOnOk W.took out.old result
         (flat_map (λ row. if has_one set.0 row.0.0 then row.1.now else []) rows.now) out.new }
@@ -197,6 +238,15 @@ fn write_rows<W: Sink>(out: &mut W, set: Attributes, rows: &[(Attributes, &str)]
     if set.is_empty() {
         return Ok(());
     }
+    write_each_row(out, set, rows)
+}
+
+/// The same, row by row.
+fn write_each_row<W: Sink>(out: &mut W, set: Attributes, rows: &[(Attributes, &str)]) -> fmt::Result
+    ensures wrote { WroteOnOk W.took out.old result
+        (flat_map (λ row. if has_one set.0 row.0.0 then row.1.now else []) rows.now) out.new }
+    ensures kept { Keeps W.begins out.old out.new }
+{
     for (attributes, sequence) in rows {
         write_when(out, set.intersects(*attributes), sequence)?;
     }
@@ -216,6 +266,7 @@ fn write_when<W: Sink>(out: &mut W, is_set: bool, sequence: &str) -> fmt::Result
 
 /// Writes the codes of the colors that are set.
 #[tactic(auto, unfolding(crate::specs::States::rendition_of))]
+#[inline(always)]
 fn write_colors<W: Sink>(out: &mut W, style: &Style) -> fmt::Result
     ensures wrote { WroteOnOk W.took out.old result
         (written_all (color_codes (codes "38") (rendition_of style.now).foreground
@@ -252,30 +303,36 @@ fn write_color<W: Sink>(out: &mut W, tens: u8, color: Option<AnsiColor>) -> fmt:
 {
     match color {
         None => Ok(()),
-        Some(color) => write_color_sequence(out, tens, color),
+        Some(AnsiColor::Bit4(code)) => write_code(out, code),
+        Some(AnsiColor::Bit8(number)) => write_color_of_256(out, tens, number),
+        Some(AnsiColor::Bit24 { r, g, b }) => write_true_color(out, tens, r, g, b),
     }
 }
 
-/// Writes the sequence of a color.
-fn write_color_sequence<W: Sink>(out: &mut W, tens: u8, color: AnsiColor) -> fmt::Result
+/// Writes the sequence of one of 256 colors.
+#[inline(never)]
+fn write_color_of_256<W: Sink>(out: &mut W, tens: u8, number: u8) -> fmt::Result
     requires { tens < 128 }
-    ensures wrote { WroteOnOk W.took out.old result (color_sequence (tens ∷ codes "8") color)
-        out.new }
+    ensures wrote { WroteOnOk W.took out.old result
+        (color_sequence (tens ∷ codes "8") (Bit8 number)) out.new }
     ensures kept { Keeps W.begins out.old out.new }
 {
-    match color {
-        AnsiColor::Bit4(n) => write_code(out, n),
-        AnsiColor::Bit8(n) => {
-            write_color_front(out, tens, b'5')?;
-            write_number(out, n, b'm')
-        }
-        AnsiColor::Bit24 { r, g, b } => {
-            write_color_front(out, tens, b'2')?;
-            write_number(out, r, b';')?;
-            write_number(out, g, b';')?;
-            write_number(out, b, b'm')
-        }
-    }
+    write_color_front(out, tens, b'5')?;
+    write_number(out, number, b'm')
+}
+
+/// Writes the sequence of a color by its red, green and blue.
+#[inline(never)]
+fn write_true_color<W: Sink>(out: &mut W, tens: u8, r: u8, g: u8, b: u8) -> fmt::Result
+    requires { tens < 128 }
+    ensures wrote { WroteOnOk W.took out.old result
+        (color_sequence (tens ∷ codes "8") (Bit24 r g b)) out.new }
+    ensures kept { Keeps W.begins out.old out.new }
+{
+    write_color_front(out, tens, b'2')?;
+    write_number(out, r, b';')?;
+    write_number(out, g, b';')?;
+    write_number(out, b, b'm')
 }
 
 /// Writes what begins the sequence of a color beyond the sixteen.
@@ -302,11 +359,16 @@ fn write_code<W: Sink>(out: &mut W, code: u8) -> fmt::Result
     ensures wrote { WroteOnOk W.took out.old result (written (decimal code)) out.new }
     ensures kept { Keeps W.begins out.old out.new }
 {
-    if !W::IN_PIECES && 10 <= code && code < 100 {
-        return write_ascii(out, &[ESC, b'[', b'0' + code / 10, b'0' + code % 10, b'm']);
+    if code < 10 || 100 <= code {
+        out.write("\u{1b}[")?;
+        return write_number(out, code, b'm');
     }
-    out.write("\u{1b}[")?;
-    write_number(out, code, b'm')
+    let (tens, ones) = (b'0' + code / 10, b'0' + code % 10);
+    if W::IN_PIECES {
+        out.write("\u{1b}[")?;
+        return write_ended(out, &[tens, ones, b'm']);
+    }
+    write_ascii(out, &[ESC, b'[', tens, ones, b'm'])
 }
 
 /// Writes a number in decimal, and an ASCII byte after it. A copy of a known length is quicker, so

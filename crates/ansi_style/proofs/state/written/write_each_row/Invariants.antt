@@ -1,7 +1,7 @@
 use Rattle.std.specs.Fmt.{WritesInCalls}
 use Rattle.ansi_style.proofs.Common.{[], flat_map, take, if◌then◌else◌, has_one}
 use Rattle.ansi_style.specs.Writing.{Keeps}
-use Rattle.ansi_style.proofs.state.written.write_rows.Given as goal
+use Rattle.ansi_style.proofs.state.written.write_each_row.Given as goal
 
 -- the rows so far are written
 abbrev pub invariant-loop-attributes : goal.invariant-loop-attributes
