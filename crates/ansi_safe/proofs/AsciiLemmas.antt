@@ -1,5 +1,5 @@
 -- Words of bytes whose high bits aren't set.
-use Rattle.std.proofs.Common.{◌≡◌, ◌↔◌, IsTrue, Bool, true, refl, ℕ, zero, suc, ◌+◌, ◌-◌, ◌*◌, ◌<◌, ◌≤◌, List, ◌++◌, length, take, drop, take-add, take-append-drop, length-take, get_or, bit_and, sym, ap, ◌∙◌, subst, inl, inr, arith, w8, w64, Fits}
+use Rattle.std.proofs.Common.{◌≡◌, ◌↔◌, IsTrue, Bool, true, refl, ℕ, zero, suc, ◌+◌, ◌-◌, ◌*◌, ◌<◌, ◌≤◌, List, ◌++◌, length, take, drop, take-add, take-append-drop, length-take, get_or, bit_and, sym, ap, ◌∙◌, subst, inl, inr, arith, w8, w32, w64, Fits}
 use Rattle.std.specs.Int.{w128}
 use Rattle.std.specs.Str.{IsAscii, IsUtf8}
 use Rattle.simdutf8.proofs.StepsLemmas.{IsUtf8-after_ascii, IsUtf8-append_ascii}
@@ -35,6 +35,11 @@ no_high_bit-ascii n bs fit none i = elim (cases_lt i n) [
   | inl l ↦ no_high_bit (λ j. get_or (take n bs) j 0) (front-fits n bs fit) n 0 none i (omega arith) (omega arith)
   | inr g ↦ omega (arith, get_or_past (take n bs) i 0, length-take {A = ℕ})
 ]
+
+pub ascii_4 : (bs : List ℕ) → ((i : ℕ) → Fits w8 (get_or bs i 0)) → bit_and (from_le_bytes w32 (take 4 bs)) 0x8080_8080 ≡ 0 → IsAscii (take 4 bs)
+ascii_4 bs fit none =
+    let word : digits_from (λ k. get_or (take 4 bs) k 0) 0 4 ≡ from_le_bytes w32 (take 4 bs) = omega arith in
+    no_high_bit-ascii 4 bs fit (ap (λ w. bit_and w 0x8080_8080) word ∙ none)
 
 pub ascii_8 : (bs : List ℕ) → ((i : ℕ) → Fits w8 (get_or bs i 0)) → bit_and (from_le_bytes w64 (take 8 bs)) 0x8080_8080_8080_8080 ≡ 0 → IsAscii (take 8 bs)
 ascii_8 bs fit none =
@@ -102,3 +107,7 @@ so_far-decides bs rest b so_far decides = utf8_by_rest (length bs - length rest)
 -- the last n bytes are ASCII too
 pub so_far-end : (n : ℕ) (bs rest : List ℕ) (b : Bool) → IsAsciiSoFar bs rest → length rest ≤ n → n ≤ length bs → b ≡ true → IsAscii (take n (drop (length bs - n) bs)) → IsTrue b ↔ IsUtf8 bs
 so_far-end n bs rest b so_far left room is back = utf8_if_ascii bs b is (ascii_covered (length bs - length rest) (length bs - n) n bs so_far.front back (omega arith) (omega arith))
+
+-- bytes of which the first n and the last n, which meet, are ASCII
+pub utf8_by_ends : (n : ℕ) (bs : List ℕ) → n ≤ length bs → length bs ≤ n + n → IsAscii (take n bs) → IsAscii (take n (drop (length bs - n) bs)) → IsUtf8 bs
+utf8_by_ends n bs room most front back = IsUtf8-from_ascii bs (ascii_covered n (length bs - n) n bs front back (omega arith) (omega arith))

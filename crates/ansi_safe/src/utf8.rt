@@ -7,6 +7,8 @@ pub use simdutf8::basic::Utf8Error;
 use std::str::from_utf8_unchecked;
 
 // The high bit of each byte, which ASCII doesn't have.
+const HIGH_BITS_OF_4: u32 = 0x8080_8080;
+
 const HIGH_BITS_OF_8: u64 = 0x8080_8080_8080_8080;
 
 const HIGH_BITS_OF_16: u128 = 0x8080_8080_8080_8080_8080_8080_8080_8080;
@@ -30,7 +32,8 @@ pub fn from_utf8(bytes: &[u8]) -> Result<&str, Utf8Error>
     }
 }
 
-/// Whether the bytes are UTF-8. `simdutf8` is as quick on ASCII of more than 128 bytes.
+/// Whether the bytes are UTF-8. `simdutf8` is as quick on ASCII of more than 128 bytes. Most texts of
+/// at most 32 bytes are ASCII, which takes one test.
 #[inline(never)]
 fn is_utf8(bytes: &[u8]) -> bool
     ensures { IsTrue result ↔ IsUtf8 bytes.now }
@@ -38,12 +41,14 @@ fn is_utf8(bytes: &[u8]) -> bool
     let len = bytes.len();
     if len > 128 {
         simdutf8::is_utf8(bytes)
-    } else if len >= 16 {
+    } else if len > 32 {
         is_utf8_by_16(bytes)
+    } else if len >= 16 {
+        are_ascii_by_16(bytes) || is_utf8_after_16(bytes)
     } else if len >= 8 {
-        is_utf8_by_8(bytes)
+        are_ascii_by_8(bytes) || is_utf8_after_8(bytes)
     } else {
-        is_utf8_by_1(bytes)
+        len >= 4 && are_ascii_by_4(bytes) || is_utf8_by_1(bytes)
     }
 }
 
@@ -62,17 +67,30 @@ fn is_utf8_by_1(bytes: &[u8]) -> bool
     true
 }
 
-/// The same of 8 to 15 bytes, 8 at a time. The last 8 may overlap those before.
+/// The same of at least 8 bytes. The first 8 may be ASCII.
 #[inline(always)]
-fn is_utf8_by_8(bytes: &[u8]) -> bool
-    requires at_least { 8 ≤ length bytes.now }
-    requires at_most { length bytes.now < 16 }
+fn is_utf8_after_8(bytes: &[u8]) -> bool
+    requires { 8 ≤ length bytes.now }
     ensures { IsTrue result ↔ IsUtf8 bytes.now }
 {
-    if !begins_ascii_8(bytes) {
-        return is_short_utf8(bytes);
+    if begins_ascii_8(bytes) {
+        is_short_utf8(&bytes[8..])
+    } else {
+        is_short_utf8(bytes)
     }
-    begins_ascii_8(&bytes[bytes.len() - 8..]) || is_short_utf8(&bytes[8..])
+}
+
+/// The same of at least 16 bytes. The first 16 may be ASCII.
+#[inline(always)]
+fn is_utf8_after_16(bytes: &[u8]) -> bool
+    requires { 16 ≤ length bytes.now }
+    ensures { IsTrue result ↔ IsUtf8 bytes.now }
+{
+    if begins_ascii_16(bytes) {
+        is_short_utf8(&bytes[16..])
+    } else {
+        is_short_utf8(bytes)
+    }
 }
 
 /// The same of at least 16 bytes, 16 at a time. The last 16 may overlap those before.
@@ -135,6 +153,47 @@ fn before_ascii_16(bytes: &[u8]) -> &[u8]
         end -= 16;
     }
     &bytes[..end]
+}
+
+/// Whether 4 to 8 bytes are ASCII. The first 4 and the last 4, which may overlap, are all of them.
+#[inline(always)]
+fn are_ascii_by_4(bytes: &[u8]) -> bool
+    requires at_least { 4 ≤ length bytes.now }
+    requires at_most { length bytes.now ≤ 8 }
+    ensures { IsTrue result → IsUtf8 bytes.now }
+{
+    begins_ascii_4(bytes) & begins_ascii_4(&bytes[bytes.len() - 4..])
+}
+
+/// The same of 8 to 16 bytes.
+#[inline(always)]
+fn are_ascii_by_8(bytes: &[u8]) -> bool
+    requires at_least { 8 ≤ length bytes.now }
+    requires at_most { length bytes.now ≤ 16 }
+    ensures { IsTrue result → IsUtf8 bytes.now }
+{
+    begins_ascii_8(bytes) & begins_ascii_8(&bytes[bytes.len() - 8..])
+}
+
+/// The same of 16 to 32 bytes.
+#[inline(always)]
+fn are_ascii_by_16(bytes: &[u8]) -> bool
+    requires at_least { 16 ≤ length bytes.now }
+    requires at_most { length bytes.now ≤ 32 }
+    ensures { IsTrue result → IsUtf8 bytes.now }
+{
+    begins_ascii_16(bytes) & begins_ascii_16(&bytes[bytes.len() - 16..])
+}
+
+/// Whether there are 4 bytes at the front, and they are ASCII.
+#[inline(always)]
+fn begins_ascii_4(bytes: &[u8]) -> bool
+    ensures { IsTrue result → IsAscii (take 4 bytes.now) }
+{
+    match bytes.first_chunk::<4>() {
+        Some(front) => u32::from_le_bytes(*front) & HIGH_BITS_OF_4 == 0,
+        None => false,
+    }
 }
 
 /// Whether there are 8 bytes at the front, and they are ASCII.
