@@ -30,7 +30,11 @@ use std::borrow::CowStr;
 pub fn has_any(text: &str) -> bool
     ensures { result ≡ has_escape text.now }
 {
-    text.as_bytes().contains(&ESC)
+    match text.as_bytes() {
+        // most texts that have one begin with one
+        [ESC, ..] => true,
+        bytes => bytes.contains(&ESC),
+    }
 }
 
 /// Like `AnsiStr::ansi_strip`, with a result that lives as long as the text, and with any
