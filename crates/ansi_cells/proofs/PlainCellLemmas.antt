@@ -28,7 +28,8 @@ use Rattle.ansi_style.proofs.StyledLemmas.{style_through, style_through-append, 
 use Rattle.ansi_search.specs.Offsets.{StandsIn}
 use Rattle.ansi_search.proofs.OffsetLemmas.{IsOverText, IsOverMark}
 use Rattle.ansi_search.proofs.PositionLemmas.{no_character_goes_on-past}
-use Rattle.ansi_safe.specs.Safe.{is_ordinary_byte, is_clean_link, all_allowed}
+use Rattle.ansi_safe.specs.Safe.{is_ordinary_byte, is_clean_link, all_allowed, keeps_links, may_stay, is_safe}
+use Rattle.ansi_safe.specs.declared.policy.Links.{Links}
 use Rattle.ansi_safe.specs.Cells.{cell, is_cell}
 use Rattle.ansi_safe.specs.Links.{link_of, opens_link}
 use Rattle.ansi_safe.proofs.AllowedLemmas.{stand_after_ordinary}
@@ -104,6 +105,13 @@ plain-is_cell t all = plain-pass _ run-stays (λ w sgr. ap (λ b. b || is_clean_
 plain-stays : (t : List ℕ) → IsUtf8 t → list_all is_plain_piece (pieces_of t) ≡ true → cell t ≡ t
 plain-stays t utf8 all = cell-stays t utf8 (plain-is_cell t all)
 
+-- and is safe, whatever is made of links
+run-allowed : (w : List ℕ) → list_all is_printable w ≡ true → all_allowed (chars w) ≡ true
+run-allowed w printable = (and_parts _ _ (run-stays w printable)).0
+
+plain-is_safe : (links : Links) (t : List ℕ) → list_all is_plain_piece (pieces_of t) ≡ true → is_safe links t ≡ true
+plain-is_safe links t all = plain-pass (may_stay links) run-allowed (λ w sgr. ap (λ b. b || (keeps_links links && is_clean_link w)) sgr) (pieces_of t) all
+
 -- ---- a pass over them
 
 -- The pieces passed are runs of printable ASCII and SGRs, with this style after them, and this last byte. The bytes of the runs leave this many columns of the width.
@@ -172,6 +180,7 @@ plain-link (LoneEscape ∷ ps) all = absurd (cc all)
 pub plain-text : {t : List ℕ} {style : Rendition} (ps : List Piece) → IsUtf8 t → pieces_of t ≡ ps → list_all is_plain_piece ps ≡ true → style ≡ style_through plain_style ps → IsPlainText t style
 plain-text {t} ps utf8 pieces all style_is = record {
   stays = plain-stays t utf8 (ap (list_all is_plain_piece) pieces ∙ all);
+  safe = λ links. plain-is_safe links t (ap (list_all is_plain_piece) pieces ∙ all);
   style_is = style_is ∙ ap (style_through plain_style) (sym pieces) ∙ sym (style_after_from-pieces plain_style t);
   link_is = ap (λ qs. link_of (marks_of qs)) pieces ∙ link_of-pieces ps ∙ plain-link ps all;
 }

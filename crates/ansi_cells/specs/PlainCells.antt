@@ -8,7 +8,8 @@ use Rattle.ansi_style.specs.States.{rendition_of}
 use Rattle.ansi_style.specs.Styled.{style_after}
 use Rattle.ansi_safe.specs.Cells.{cell}
 use Rattle.ansi_safe.specs.Links.{link_of}
-use Rattle.ansi_safe.specs.Safe.{is_printable_byte}
+use Rattle.ansi_safe.specs.Safe.{is_printable_byte, is_safe}
+use Rattle.ansi_safe.specs.declared.policy.Links.{Links}
 use Rattle.ansi_clusters.specs.declared.views.View.TheVariants.{Shown}
 use Rattle.ansi_cells.specs.declared.plain_cells.PlainFront.{PlainFront}
 use Rattle.ansi_clusters.specs.declared.walks.Walk.{Walk}
@@ -16,9 +17,10 @@ use Rattle.ansi_clusters.specs.Columns.{columns}
 use Rattle.ansi_clusters.specs.Views.{seen_len, seen_text}
 use Rattle.ansi_clusters.specs.Walks.{IsWalkIn, IsPrintableFront, IsPastAscii, IsFittingTo, SeesUpTo, EndsAscii}
 
--- The text stays as it is in a cell. This style is open at its end, and no link.
+-- The text stays as it is in a cell, and is safe, whatever is made of links. This style is open at its end, and no link.
 pub record IsPlainText (t : List ℕ) (style : Rendition) : Type 0 where
   pub stays : cell t ≡ t
+  pub safe : (links : Links) → IsTrue (is_safe links t)
   pub style_is : style ≡ style_after t
   pub link_is : link_of (marks t) ≡ []
 

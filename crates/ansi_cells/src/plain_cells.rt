@@ -1,8 +1,7 @@
 //! The texts of cells that are printable ASCII and select graphic renditions alone. They stay as
 //! they are, and one pass tells their columns and the style at their end, or where they are cut and
 //! the style there. A paragraph that fits into one line is such a text too.
-ghost use Rattle.std.specs.Prelude.{◌≡◌, ◌<◌, ◌≤◌, ℕ, IfSome, MatchOption, IsTrue, length, take, slice_range};
-ghost use Rattle.std.specs.Str.{IsAscii};
+ghost use Rattle.std.specs.Prelude.{◌≡◌, ◌<◌, ◌≤◌, ℕ, IfSome, MatchOption, IsTrue, length, slice_range};
 ghost use Rattle.std.specs.List.{list_all};
 ghost use Rattle.ansi_style.specs.Rendition.{plain_style};
 ghost use Rattle.ansi_style.specs.States.{rendition_of};
@@ -16,6 +15,7 @@ use ansi_clusters::fits::Fitted;
 use ansi_clusters::walks::Walk;
 use ansi_items::ansitok::{Kind, Scanner};
 use ansi_safe::printable::printable_len;
+use ansi_safe::utf8::is_ascii;
 use ansi_style::state::Style;
 use ansi_style::styles;
 
@@ -45,73 +45,6 @@ fn is_short_ascii(text: &str) -> bool {
     text.len() <= LONGEST && is_ascii(text.as_bytes())
 }
 
-/// Whether the bytes are ASCII, read 16 or 8 at a time. The last ones may overlap those before.
-#[inline(always)]
-pub(crate) fn is_ascii(bytes: &[u8]) -> bool
-    ensures { IsTrue result → IsAscii bytes.now }
-{
-    match bytes.len() {
-        0..=7 => is_ascii_by_1(bytes),
-        8..=15 => begins_ascii_8(bytes) && begins_ascii_8(&bytes[bytes.len() - 8..]),
-        _ => is_ascii_by_16(bytes),
-    }
-}
-
-/// The same, byte by byte.
-#[inline(always)]
-fn is_ascii_by_1(bytes: &[u8]) -> bool
-    ensures { IsTrue result → IsAscii bytes.now }
-{
-    let mut at = 0;
-    while at < bytes.len() {
-        if bytes[at] >= 0x80 {
-            return false;
-        }
-        at += 1;
-    }
-    true
-}
-
-/// The same of at least 16 bytes, 16 at a time.
-#[inline(always)]
-fn is_ascii_by_16(bytes: &[u8]) -> bool
-    requires { 16 ≤ length bytes.now }
-    ensures { IsTrue result → IsAscii bytes.now }
-{
-    let mut rest = bytes;
-    while 16 < rest.len() {
-        if !begins_ascii_16(rest) {
-            return false;
-        }
-        rest = &rest[16..];
-    }
-    begins_ascii_16(&bytes[bytes.len() - 16..])
-}
-
-/// Whether there are 8 bytes at the front, and they are ASCII.
-#[inline(always)]
-fn begins_ascii_8(bytes: &[u8]) -> bool
-    ensures { IsTrue result → IsAscii (take 8 bytes.now) }
-{
-    match bytes.first_chunk::<8>() {
-        Some(front) => u64::from_le_bytes(*front) & 0x8080_8080_8080_8080 == 0,
-        None => false,
-    }
-}
-
-/// Whether there are 16 bytes at the front, and they are ASCII.
-#[inline(always)]
-fn begins_ascii_16(bytes: &[u8]) -> bool
-    ensures { IsTrue result → IsAscii (take 16 bytes.now) }
-{
-    match bytes.first_chunk::<16>() {
-        Some(front) => {
-            u128::from_le_bytes(*front) & 0x8080_8080_8080_8080_8080_8080_8080_8080 == 0
-        }
-        None => false,
-    }
-}
-
 /// The front of a text of a cell, if that is printable ASCII and select graphic renditions alone.
 /// `None` says nothing.
 ///
@@ -132,9 +65,10 @@ pub(crate) fn plain_front(text: &str, width: usize) -> Option<PlainFront>
     }
 }
 
-/// The front of a text of a cell, if that is the whole text. `None` says nothing.
+/// The front of a text of a cell, if that is the whole text. `None` says nothing. A long text isn't looked
+/// at.
 #[inline(always)]
-pub(crate) fn plain_cell(text: &str, width: usize) -> Option<PlainFront>
+pub fn plain_cell(text: &str, width: usize) -> Option<PlainFront>
     ensures { IfSome result (λ f.
         IsPlainCell text.now width f.left (rendition_of f.style) f.last) }
 {

@@ -21,13 +21,14 @@ ghost use Rattle.ansi_cells.specs.Slices.{sliced_bytes, IsLentSlice};
 ghost use Rattle.ansi_cells.specs.Screens.{screen, sliced_screen};
 ghost use Rattle.ansi_clusters.specs.Walks.{IsWalk, clusters_from};
 
-use crate::plain_cells::{LONGEST, is_ascii, is_printable};
+use crate::plain_cells::{LONGEST, is_printable};
 use crate::shown::push_blanks;
 use ansi_clusters::views::View;
 use ansi_clusters::walks::{Run, Walk};
 use ansi_items::ansitok::{Kind, Scanner};
 use ansi_safe::cells::cell_of;
 use ansi_safe::links::{Ending, Pen, link_after, pen_after, pen_after_from, plain_pen};
+use ansi_safe::utf8::is_ascii;
 use ansi_slice::slice::push_sequences;
 use ansi_style::styles;
 use std::alloc::{AllocError, Allocator};

@@ -1,4 +1,4 @@
-//! The test that bytes are UTF-8. Most texts are short and ASCII, and that is tested first.
+//! The tests that bytes are UTF-8, or ASCII. Most texts are short and ASCII, and that is tested first.
 ghost use Rattle.std.specs.Prelude.{◌≡◌, ◌<◌, ◌≤◌, ◌↔◌, length, take, MatchResult, IsTrue};
 ghost use Rattle.std.specs.Str.{IsAscii, IsUtf8};
 
@@ -153,6 +153,54 @@ fn before_ascii_16(bytes: &[u8]) -> &[u8]
         end -= 16;
     }
     &bytes[..end]
+}
+
+/// Whether the bytes are ASCII, read 16 or 8 at a time. `false` says nothing. Doesn't allocate. (std's
+/// `is_ascii`.)
+///
+/// ```
+/// assert!(rt; is_ascii("\x1b[1mdisk".as_bytes()) && !is_ascii("né".as_bytes()));
+/// ```
+#[inline(always)]
+pub fn is_ascii(bytes: &[u8]) -> bool
+    ensures { IsTrue result → IsAscii bytes.now }
+{
+    match bytes.len() {
+        0..=7 => is_ascii_by_1(bytes),
+        8..=15 => begins_ascii_8(bytes) && begins_ascii_8(&bytes[bytes.len() - 8..]),
+        _ => is_ascii_by_16(bytes),
+    }
+}
+
+/// The same, byte by byte.
+#[inline(always)]
+fn is_ascii_by_1(bytes: &[u8]) -> bool
+    ensures { IsTrue result → IsAscii bytes.now }
+{
+    let mut at = 0;
+    while at < bytes.len() {
+        if bytes[at] >= 0x80 {
+            return false;
+        }
+        at += 1;
+    }
+    true
+}
+
+/// The same of at least 16 bytes, 16 at a time. The last 16 may overlap those before.
+#[inline(always)]
+fn is_ascii_by_16(bytes: &[u8]) -> bool
+    requires { 16 ≤ length bytes.now }
+    ensures { IsTrue result → IsAscii bytes.now }
+{
+    let mut rest = bytes;
+    while 16 < rest.len() {
+        if !begins_ascii_16(rest) {
+            return false;
+        }
+        rest = &rest[16..];
+    }
+    begins_ascii_16(&bytes[bytes.len() - 16..])
 }
 
 /// Whether 4 to 8 bytes are ASCII. The first 4 and the last 4, which may overlap, are all of them.

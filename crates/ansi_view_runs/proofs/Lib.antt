@@ -6,6 +6,7 @@ pub mod TailLemmas
 pub mod Shown
 pub mod Viewed
 pub mod StayLemmas
+pub mod PlainLineLemmas
 pub mod JoinLemmas
 pub mod ExpandedLemmas
 pub mod ChangeLemmas

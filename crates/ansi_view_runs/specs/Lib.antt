@@ -9,4 +9,5 @@ pub mod SafeJobs
 pub mod Words
 pub mod Causes
 pub mod Stops
+pub mod PlainLines
 pub mod Runs

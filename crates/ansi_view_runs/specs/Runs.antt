@@ -1,5 +1,5 @@
 -- What a run writes of its input, so far and to the end.
-use Rattle.std.specs.Prelude.{◌≡◌, ◌≤◌, ◌⊎◌, ℕ, ◌+◌, List, [], ◌++◌, Bool, true, Option, Some, None, ⊤}
+use Rattle.std.specs.Prelude.{◌≡◌, ◌≤◌, ◌⊎◌, ℕ, ◌+◌, List, [], ◌++◌, Bool, true, Option, Some, None, Result, OnOk, IfErr, ⊤}
 use Rattle.std.specs.Io.KnownBytes.{append_known, prepend_known}
 use Rattle.ansi_view_runs.specs.declared.stop.Stop.{Stop}
 use Rattle.ansi_view_runs.specs.declared.stop.Stop.TheVariants.{Closed, ReadFailed, WriteFailed, OutOfMemory}
@@ -34,6 +34,13 @@ StopsWriting failed_before failed_after closed_before closed_after so_far Closed
 StopsWriting failed_before failed_after closed_before closed_after so_far WriteFailed = (failed_after ≡ true) × (closed_after ≡ closed_before)
 StopsWriting failed_before failed_after closed_before closed_after so_far OutOfMemory = so_far × KeepsFlags failed_before failed_after closed_before closed_after
 StopsWriting failed_before failed_after closed_before closed_after so_far ReadFailed = ⊥
+
+-- These bytes are written to a sink, which passes nothing on. If that stops because memory has run out, the sink is as before.
+pub record Writes {S : Type 0} (taken : S → Option (List ℕ)) (flushes : S → ℕ) (failed closed : S → Bool) (bytes : List ℕ) (result : Result (Unit {0}) Stop) (old new : S) : Type 0 where
+  pub all : OnOk result (taken new ≡ append_known (taken old) bytes)
+  pub unflushed : flushes new ≡ flushes old
+  pub flags : OnOk result (KeepsFlags (failed old) (failed new) (closed old) (closed new))
+  pub stopped : IfErr result (StopsWriting (failed old) (failed new) (closed old) (closed new) (taken new ≡ taken old))
 
 -- the bytes read so far came before those left, what they become is written as far as it is decided, and the rest is held
 pub record HasViewed (work : Work) (opening rest : List ℕ) (left_before left_after old new : Option (List ℕ)) : Type 0 where

@@ -44,10 +44,9 @@ line_break end = if length end == 0 then codes "\n" else end
 abbrev pub changed_line : List Change → List ℕ → List ℕ → List ℕ
 changed_line changes t end = join_by (λ t. t) (line_break end) (changed_in_turn changes t) ++ end
 
--- a line becomes what the changes make of that text, in turn, with a line break between the texts if they are several, and then the line's own end (own)
+-- a line becomes what the changes make of that text, with the line's own end (own)
 abbrev pub viewed : Work → List ℕ → Line → List ℕ
-viewed work opening line =
-    join_by (λ t. t) (line_break line.end) (changed_in_turn work.changes (shown work.view opening line)) ++ line.end
+viewed work opening line = changed_line work.changes (shown work.view opening line) line.end
 
 -- what is open after a line: what its text leaves open, whatever changes are made of it
 abbrev pub opening_after : View → List ℕ → Line → List ℕ

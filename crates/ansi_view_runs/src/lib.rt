@@ -6,6 +6,7 @@ pub mod edits;
 mod ended;
 pub mod laws;
 pub mod lines;
+mod plain_lines;
 pub mod runs;
 pub mod stop;
 mod tails;

@@ -9,17 +9,19 @@ ghost use Rattle.ansi_lines_runs.specs.Runs.{words_of};
 ghost use Rattle.ansi_view_runs.specs.Lines.{max_piece, HasNoLineFeed};
 ghost use Rattle.ansi_view_runs.specs.Jobs as jobs;
 ghost use Rattle.ansi_view_runs.specs.LineViews.{line_of};
-ghost use Rattle.ansi_view_runs.specs.Runs.{to_come, Shows, ShowsBeginning, StopsWriting};
+ghost use Rattle.ansi_view_runs.specs.PlainLines.{IsPlainLine};
+ghost use Rattle.ansi_view_runs.specs.Runs.{to_come, Shows, ShowsBeginning, StopsWriting, Writes};
 ghost use Rattle.ansi_view_runs.specs.Runs.{KeepsFlags, MostFlushes, StopsReading};
 ghost use Rattle.ansi_view_runs.specs.Runs.{ViewsAll, ViewsBeginning, ViewsFront};
 ghost use Rattle.ansi_view_runs.specs.SafeJobs.{work_of};
 ghost use Rattle.ansi_view_runs.specs.Stops.{message_of};
-ghost use Rattle.ansi_view_runs.specs.Views.{changed_line, decoded, opening_after, viewed};
+ghost use Rattle.ansi_view_runs.specs.Views.{changed_line, decoded, opening_after, shown, viewed};
 ghost use Rattle.ansi_view_runs.specs.Views.{with_safe_tails};
 ghost use Rattle.ansi_view_runs.specs.Words.{bad_word, message_of_word, view_asked};
 
 use crate::ended::{edit_line, end_text};
 use crate::lines::{Line, split_first};
+use crate::plain_lines::PlainLine;
 use crate::stop::{OUT_OF_MEMORY, Stop, write_message};
 use crate::tails::{safe_job, safe_tails};
 use crate::view::{Job, SafeJob, as_decoded, decode_tested, edits_nothing, stays, view_decoded};
@@ -47,11 +49,10 @@ pub struct Held<A: Allocator> {
     pub rest: Vec<u8, A>,
 }
 
-// Writes what a line becomes. `opening` is what is open before the line, and then after it. `read` is
-// the line with its end, as it was read, which saves copies; no clause depends on it.
+// Writes what a line becomes. `opening` is what is open before the line, and then after it.
 //
-// A line that stays as it is, without edits, is written without its end first. Any other line is
-// written at once.
+// `read` is the line with its end, as it was read, which saves copies; no clause depends on it. A line that stays as
+// it is, without edits, is written without its end first. Any other line is written at once.
 fn write_line<A: Allocator + Copy, W: Sink>(
     alloc: A,
     job: &SafeJob<'_, A>,
@@ -60,25 +61,63 @@ fn write_line<A: Allocator + Copy, W: Sink>(
     read: &[u8],
     output: &mut W,
 ) -> Result<(), Stop>
-    ensures taken { OnOk result (W.taken output.new ≡ append_known (W.taken output.old)
-        (viewed (work_of job.now) (string_bytes opening.old) (line_of line.now))) }
+    ensures written { Writes W.taken W.flushes W.failed W.closed
+        (viewed (work_of job.now) (string_bytes opening.old) (line_of line.now))
+        result output.old output.new }
     ensures opening { OnOk result (string_bytes opening.new
         ≡ opening_after job.now.view (string_bytes opening.old) (line_of line.now)) }
-    ensures flushes { W.flushes output.new ≡ W.flushes output.old }
-    ensures flags { OnOk result (KeepsFlags (W.failed output.old) (W.failed output.new)
-        (W.closed output.old) (W.closed output.new)) }
-    ensures stopped { IfErr result (StopsWriting (W.failed output.old) (W.failed output.new)
-        (W.closed output.old) (W.closed output.new) (W.taken output.new ≡ W.taken output.old)) }
 {
     let tested = from_utf8(line.text);
     let Some(text) = as_decoded(job.view, line.text, tested) else {
         let text = decode_tested(alloc, job.view, line.text, tested)?;
         return write_text(alloc, job, opening, line, text, read, output);
     };
-    if !edits_nothing(job) || !opening.is_empty() {
-        let text = CowStr::Borrowed(text);
-        return write_text(alloc, job, opening, line, text, read, output);
+    if !opening.is_empty() {
+        return write_text(
+            alloc,
+            job,
+            opening,
+            line,
+            CowStr::Borrowed(text),
+            read,
+            output,
+        );
     }
+    if edits_nothing(job) {
+        return write_unedited(alloc, job, opening, line, text, output);
+    }
+    match PlainLine::of(job.view, line, text) {
+        Some(plain) => write_plain(alloc, job, line, plain, read, output),
+        None => write_text(
+            alloc,
+            job,
+            opening,
+            line,
+            CowStr::Borrowed(text),
+            read,
+            output,
+        ),
+    }
+}
+
+// Like `write_line`, of a line whose bytes are decoded already, if there are no edits.
+#[inline(always)]
+fn write_unedited<A: Allocator + Copy, W: Sink>(
+    alloc: A,
+    job: &SafeJob<'_, A>,
+    opening: &mut String<A>,
+    line: &Line<'_>,
+    text: &str,
+    output: &mut W,
+) -> Result<(), Stop>
+    requires unedited { (work_of job.now).changes ≡ [] }
+    requires text { text.now ≡ decoded job.now.view line.now.text.now }
+    ensures written { Writes W.taken W.flushes W.failed W.closed
+        (viewed (work_of job.now) (string_bytes opening.old) (line_of line.now))
+        result output.old output.new }
+    ensures opening { OnOk result (string_bytes opening.new
+        ≡ opening_after job.now.view (string_bytes opening.old) (line_of line.now)) }
+{
     if stays(job.view, opening.as_str(), line, text) {
         write_ended(text, line.end, output)?;
         return Ok(());
@@ -88,7 +127,29 @@ fn write_line<A: Allocator + Copy, W: Sink>(
     Ok(())
 }
 
-// Like `write_line`, of a line whose bytes are decoded already, and always at once.
+// Like `write_line`, of a line that is plain, with nothing open before it. It leaves nothing open.
+#[inline(always)]
+fn write_plain<A: Allocator + Copy, W: Sink>(
+    alloc: A,
+    job: &SafeJob<'_, A>,
+    line: &Line<'_>,
+    plain: PlainLine<'_>,
+    read: &[u8],
+    output: &mut W,
+) -> Result<(), Stop>
+    requires plain { IsPlainLine plain }
+    requires shown { shown job.now.view [] (line_of line.now) ≡ plain.text.now }
+    ensures { Writes W.taken W.flushes W.failed W.closed
+        (viewed (work_of job.now) [] (line_of line.now)) result output.old output.new }
+{
+    let text = CowStr::Borrowed(plain.text);
+    if plain.is_left_by(job) {
+        return write_at_once(alloc, text, line.end, read, output);
+    }
+    write_edited(alloc, job, text, line.end, read, output)
+}
+
+// Like `write_line`, of a line whose bytes are decoded already.
 fn write_text<A: Allocator + Copy, W: Sink>(
     alloc: A,
     job: &SafeJob<'_, A>,
@@ -99,15 +160,11 @@ fn write_text<A: Allocator + Copy, W: Sink>(
     output: &mut W,
 ) -> Result<(), Stop>
     requires { cow_str_bytes text ≡ decoded job.now.view line.now.text.now }
-    ensures taken { OnOk result (W.taken output.new ≡ append_known (W.taken output.old)
-        (viewed (work_of job.now) (string_bytes opening.old) (line_of line.now))) }
+    ensures written { Writes W.taken W.flushes W.failed W.closed
+        (viewed (work_of job.now) (string_bytes opening.old) (line_of line.now))
+        result output.old output.new }
     ensures opening { OnOk result (string_bytes opening.new
         ≡ opening_after job.now.view (string_bytes opening.old) (line_of line.now)) }
-    ensures flushes { W.flushes output.new ≡ W.flushes output.old }
-    ensures flags { OnOk result (KeepsFlags (W.failed output.old) (W.failed output.new)
-        (W.closed output.old) (W.closed output.new)) }
-    ensures stopped { IfErr result (StopsWriting (W.failed output.old) (W.failed output.new)
-        (W.closed output.old) (W.closed output.new) (W.taken output.new ≡ W.taken output.old)) }
 {
     if stays(job.view, opening.as_str(), line, text.as_str()) {
         return write_edited(alloc, job, text, line.end, read, output);
@@ -117,8 +174,8 @@ fn write_text<A: Allocator + Copy, W: Sink>(
     Ok(())
 }
 
-// Writes what edits make of a text in turn, as lines, the last of which has this end. It makes no
-// copy if that is `read`.
+// Writes what edits make of a text in turn, as lines, the last of which has this end. It makes no copy if that
+// is `read`.
 #[inline(always)]
 fn write_edited<A: Allocator + Copy, W: Sink>(
     alloc: A,
@@ -128,13 +185,9 @@ fn write_edited<A: Allocator + Copy, W: Sink>(
     read: &[u8],
     output: &mut W,
 ) -> Result<(), Stop>
-    ensures taken { OnOk result (W.taken output.new ≡ append_known (W.taken output.old)
-        (changed_line (work_of job.now).changes (cow_str_bytes text.entry) end.now)) }
-    ensures flushes { W.flushes output.new ≡ W.flushes output.old }
-    ensures flags { OnOk result (KeepsFlags (W.failed output.old) (W.failed output.new)
-        (W.closed output.old) (W.closed output.new)) }
-    ensures stopped { IfErr result (StopsWriting (W.failed output.old) (W.failed output.new)
-        (W.closed output.old) (W.closed output.new) (W.taken output.new ≡ W.taken output.old)) }
+    ensures { Writes W.taken W.flushes W.failed W.closed
+        (changed_line (work_of job.now).changes (cow_str_bytes text.entry) end.now)
+        result output.old output.new }
 {
     let stages = job.stages.as_slice();
     if stages.is_empty() {
@@ -155,13 +208,8 @@ fn write_at_once<A: Allocator, W: Sink>(
     read: &[u8],
     output: &mut W,
 ) -> Result<(), Stop>
-    ensures taken { OnOk result (W.taken output.new ≡ append_known (W.taken output.old)
-        (cow_str_bytes text.entry ++ end.now)) }
-    ensures flushes { W.flushes output.new ≡ W.flushes output.old }
-    ensures flags { OnOk result (KeepsFlags (W.failed output.old) (W.failed output.new)
-        (W.closed output.old) (W.closed output.new)) }
-    ensures stopped { IfErr result (StopsWriting (W.failed output.old) (W.failed output.new)
-        (W.closed output.old) (W.closed output.new) (W.taken output.new ≡ W.taken output.old)) }
+    ensures { Writes W.taken W.flushes W.failed W.closed (cow_str_bytes text.entry ++ end.now)
+        result output.old output.new }
 {
     if are_text_and_end(read, text.as_str(), end) {
         output.write(read)?;

@@ -4,7 +4,7 @@ use ansi_safe::cells::{
 };
 use ansi_safe::links::pen_after;
 use ansi_safe::safe::{is_safe, pen_if_safe, sanitize};
-use ansi_safe::utf8::from_utf8;
+use ansi_safe::utf8::{from_utf8, is_ascii};
 use ansi_safe::{AnsiSafe, Links, Policy, Rest};
 use ansi_str::Color;
 use std::test::Fail;
@@ -131,4 +131,9 @@ fn is_paragraph_example(rt: HostRuntime) {
 #[test]
 fn from_utf8_example(rt: HostRuntime) {
     assert!(rt; from_utf8("né".as_bytes()) == Ok("né") && from_utf8(&[b'n', 0xC3]).is_err());
+}
+
+#[test]
+fn is_ascii_example(rt: HostRuntime) {
+    assert!(rt; is_ascii("\x1b[1mdisk".as_bytes()) && !is_ascii("né".as_bytes()));
 }

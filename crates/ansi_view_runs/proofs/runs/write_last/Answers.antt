@@ -22,7 +22,7 @@ returns-clause-done g c =
     let is : text ≡ b = c.as_slice-text.ensures.value in
     let taken : g.W.Sink.taken c.if-not-is_empty.output ≡ append_known old (to_come work opening b []) =
     elim c.if-not-is_empty.branch [
-      | then-not-is_empty+in_ok-write_line w ↦ rw w.output-is (w.in_ok-write_line.ensures.taken
+      | then-not-is_empty+in_ok-write_line w ↦ rw w.output-is (w.in_ok-write_line.ensures.written.all
           ∙ ap (append_known old) (sym (to_come-last work opening text (grind (arith, nat_tests, w.if-not-is_empty.true, c.is_empty.ensures)) (subst HasNoLineFeed (sym is) c.requires.0) (omega (arith, c.requires.1, ap length is)))
           ∙ ap (λ t. to_come work opening t []) is))
       | else-not-is_empty w ↦ rw w.output-is (let none : b ≡ [] = sym is ∙ nil_from_length text (eqb-true (length text) 0 (sym w.if-not-is_empty.ensures)) in

@@ -1,17 +1,24 @@
-use Rattle.std.proofs.Common.{◌≡◌, ◌++◌, refl, sym, ◌∙◌, ap, arith, string_bytes}
-use Rattle.ansi_view_runs.specs.SafeJobs.{work_of}
-use Rattle.ansi_view_runs.specs.LineViews.{line_of}
-use Rattle.ansi_view_runs.specs.Views.{shown, viewed}
-use Rattle.ansi_view_runs.proofs.StayLemmas.{viewed-unchanged}
+use Rattle.std.proofs.Common.{◌≡◌, [], sym, arith, string_bytes, Ok, Err}
+use Rattle.std.specs.Prelude.{Result, OnOk}
+use Rattle.std.proofs.lemmas.Bool.Decides.{nat_tests}
+use Rattle.std.proofs.lemmas.List.{nil_from_length}
 use Rattle.ansi_view_runs.proofs.runs.write_line.Goals as goal
 
--- a line that stays as it is, without edits
-pub returns-then-stays-clause-taken : goal.returns-then-stays-clause-taken
-returns-then-stays-clause-taken g c =
-    let work = work_of c.args.job.now in
-    let opening = string_bytes c.args.opening.now in
-    let line = line_of c.args.line.now in
-    let stays : shown work.view opening line ≡ c.in-Some.text.now = ap (λ o. shown work.view o line) (sym c.as_str.ensures.value) ∙ c.if-stays.ensures.bytes refl in
-    let becomes : c.in-Some.text.now ++ line.end ≡ viewed work opening line
-    = ap (λ t. t ++ line.end) (sym stays) ∙ sym (viewed-unchanged work opening line (c.edits_nothing.ensures (grind (arith, c.if-not-edits_nothing.false)))) in
-    rw becomes at c.in_ok-write_ended.ensures.taken
+-- what is so anyway
+OnOk-is : {U E : Type 0} {P : Type 0} (r : Result U E) → P → OnOk r P
+OnOk-is (Ok u) is = is
+OnOk-is (Err e) is = tt
+
+-- a plain line, with nothing open before it
+
+pub returns-in-Some-of-clause-written : goal.returns-in-Some-of-clause-written
+returns-in-Some-of-clause-written g c =
+    let b = string_bytes c.args.opening.now in
+    let none : b ≡ [] = nil_from_length b (grind (arith, nat_tests, c.is_empty.ensures, c.if-not-is_empty.false)) in
+    rw none c.write_plain.ensures
+
+pub returns-in-Some-of-clause-opening : goal.returns-in-Some-of-clause-opening
+returns-in-Some-of-clause-opening g c =
+    let b = string_bytes c.args.opening.now in
+    let none : b ≡ [] = nil_from_length b (grind (arith, nat_tests, c.is_empty.ensures, c.if-not-is_empty.false)) in
+    rw none (OnOk-is c.write_plain.result (sym c.in-Some-of.ensures.opening))

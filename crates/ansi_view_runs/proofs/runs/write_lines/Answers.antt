@@ -14,8 +14,8 @@ loop-line-preserved g c =
     let after = string_bytes c.write_line.new.opening in
     let wrote = c.in_ok-write_line.ensures in
     record {
-      shows = Shows-more {after = to_come work after c.in-Some.after.now} _ (viewed work before (line_of c.in-Some.line)) c.loop-line.invariant.shows wrote.taken
+      shows = Shows-more {after = to_come work after c.in-Some.after.now} _ (viewed work before (line_of c.in-Some.line)) c.loop-line.invariant.shows wrote.written.all
           (to_come-line work before after c.loop-line.rest.now c.in-Some.after.now (line_of c.in-Some.line) c.in-Some.ensures.first wrote.opening);
-      flushes = wrote.flushes ∙ c.loop-line.invariant.flushes;
-      flags = record { failed = wrote.flags.failed ∙ c.loop-line.invariant.flags.failed; closed = wrote.flags.closed ∙ c.loop-line.invariant.flags.closed };
+      flushes = wrote.written.unflushed ∙ c.loop-line.invariant.flushes;
+      flags = record { failed = wrote.written.flags.failed ∙ c.loop-line.invariant.flags.failed; closed = wrote.written.flags.closed ∙ c.loop-line.invariant.flags.closed };
     }

@@ -1,7 +1,7 @@
 use Rattle.std.proofs.Common.{◌-◌, length, arith}
 use Rattle.std.proofs.lemmas.List.{take_rest}
 use Rattle.ansi_safe.proofs.AsciiLemmas.{so_far-more, ascii_covered}
-use Rattle.ansi_cells.proofs.plain_cells.is_ascii_by_16.Goals as goal
+use Rattle.ansi_safe.proofs.utf8.is_ascii_by_16.Goals as goal
 
 pub loop-rest-preserved : goal.loop-rest-preserved
 loop-rest-preserved c =

@@ -1,7 +1,7 @@
 use Rattle.std.proofs.Common.{◌-◌, length, arith}
 use Rattle.std.proofs.lemmas.List.{take_rest}
 use Rattle.ansi_safe.proofs.AsciiLemmas.{ascii_covered}
-use Rattle.ansi_cells.proofs.plain_cells.is_ascii.Goals as goal
+use Rattle.ansi_safe.proofs.utf8.is_ascii.Goals as goal
 
 pub returns-then-begins_ascii_8 : goal.returns-then-begins_ascii_8
 returns-then-begins_ascii_8 c = λ is.
