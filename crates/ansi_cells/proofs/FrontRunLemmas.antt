@@ -5,7 +5,6 @@ use Rattle.std.specs.Str.{IsUtf8, IsAscii, IsCharBoundary}
 use Rattle.std.proofs.lemmas.Bool.{and_from, and_parts}
 use Rattle.std.proofs.lemmas.Grind.{flat_map-append}
 use Rattle.std.proofs.lemmas.List.{drop_at, take_all, take_at, take-take}
-use Rattle.std.proofs.lemmas.List.Sums.{sum_by-append}
 use Rattle.std.proofs.lemmas.Str.{chars-append, chars-IsAscii, IsUtf8-from_ascii}
 use Rattle.std.proofs.lemmas.Str.Ascii.{IsAscii-from_all, encodes-IsAscii}
 use Rattle.unicode_segmentation.specs.Grapheme.{is_grapheme_break}
@@ -20,9 +19,8 @@ use Rattle.ansi_clusters.specs.declared.views.View.{View}
 use Rattle.ansi_clusters.specs.declared.views.View.TheVariants.{Shown}
 use Rattle.ansi_clusters.specs.declared.walks.Walk.{Walk}
 use Rattle.ansi_clusters.specs.BreakStates.{break_state_of}
-use Rattle.ansi_clusters.specs.Columns.{cluster_width, columns_of}
 use Rattle.ansi_clusters.specs.Views.{seen, seen_text}
-use Rattle.ansi_clusters.specs.Walks.{clusters_after, seen_before, seen_after, seen_clusters, IsWalkIn, IsCountedTo, IsFittingTo, EndsAscii}
+use Rattle.ansi_clusters.specs.Walks.{clusters_after, seen_before, seen_after, seen_clusters, IsWalkIn, IsFittingTo, EndsAscii}
 use Rattle.ansi_clusters.proofs.AsciiLemmas.{is_printable, All-printable_is_ascii, break_state-printable, breaks-between}
 use Rattle.ansi_clusters.proofs.ClusterLawLemmas.{reversed_before, cluster-alone}
 use Rattle.ansi_cells.proofs.KeptLemmas.{bytes_before-append}
@@ -88,14 +86,6 @@ module _ (view : View) (t : List ℕ) (utf8 : IsUtf8 t) (x y : List ℕ) (text :
   ends-walk : (v : Walk) → v.position ≡ length x → IsWalkIn view t v → EndsAscii t v → EndBefore (seen view (chars y))
   ends-walk v place is ends before b first = ap (is_grapheme_break true (b ∷ before)) (sym (ap (seen_after view t) place ∙ after-is)) ∙ ends view is before b first
 
-  pub counted-walk : (v : Walk) → v.position ≡ length x → IsWalkIn view t v → EndsAscii t v → IsCountedTo view t v.position (length x)
-  counted-walk v place is ends =
-      let clusters_are = clusters-front (ends-walk v place is ends) in
-      subst (λ n. IsCountedTo view t n (length x)) (sym place) (record {
-        all = omega (arith, ap columns_of clusters_are, sum_by-append cluster_width (singles x) (seen_clusters view t (length x)), columns-singles x all);
-        bound = omega arith;
-      })
-
 module _ (t : List ℕ) (utf8 : IsUtf8 t) (x y : List ℕ) (text : plain t ≡ x ++ y) (all : list_all is_printable x ≡ true) where
   -- they fit
   fitting-front : {width left : ℕ} → EndBefore (seen Shown (chars y)) → length x + left ≡ width → IsFittingTo Shown t width (length x) left
@@ -140,10 +130,10 @@ pub run-bytes : {t w : List ℕ} {at next i : ℕ} → IsPlainPart t w at next �
 run-bytes {t} {w} {at} part offset n within =
     ap (λ i. take n (drop i t)) offset ∙ sym (take-take n (length w) (drop at t) within) ∙ ap (take n) part.bytes
 
--- w is at the front of the run
-pub run-walk : (view : View) {t w : List ℕ} {passed at : ℕ} (more : List ℕ) (ps : List Piece) (front : List Piece) (v : Walk) → IsUtf8 t → pieces_of t ≡ front ++ Text (w ++ more) ∷ ps → list_all is_printable (plain_of front) ≡ true → passed ≡ length (spelled front) → IsPlainPart t w passed at
+-- w is at the front of the run, and the state there is that after nothing
+pub run-walk-in : (view : View) {t w : List ℕ} {passed at : ℕ} (more : List ℕ) (ps : List Piece) (front : List Piece) (v : Walk) → pieces_of t ≡ front ++ Text (w ++ more) ∷ ps → break_state_of [] ≡ break_state_of (seen_before view t (length (plain_of front))) → passed ≡ length (spelled front) → IsPlainPart t w passed at
     → 0 < length w → v.position ≡ length (plain_of front) → v.offset ≡ passed → v.run_end ≡ at → v.break_state ≡ break_state_of [] → IsWalkIn view t v
-run-walk view {t} {w} {passed} {at} more ps front v utf8 pieces printable bytes part some place offset run_end break_state =
+run-walk-in view {t} {w} {passed} {at} more ps front v pieces state bytes part some place offset run_end break_state =
     let x = plain_of front in
     let run = w ++ more in
     let y = run ++ plain_of ps in
@@ -161,6 +151,14 @@ run-walk view {t} {w} {passed} {at} more ps front v utf8 pieces printable bytes 
         bytes = ap (λ n. list_all is_plain_byte (take n (drop v.offset t))) size ∙ ap (list_all is_plain_byte) (run-bytes part offset (length w) (omega arith) ∙ take_all (length w) w (omega arith)) ∙ part.plain;
       };
       end = λ e. absurd (omega (arith, e, size, some));
-      break_state = break_state ∙ front-state view t utf8 x y text printable ∙ ap (λ n. break_state_of (seen_before view t n)) (sym place);
+      break_state = break_state ∙ state ∙ ap (λ n. break_state_of (seen_before view t n)) (sym place);
       within = omega (arith, place, ap length text, length-append x y);
     }
+
+-- printable ASCII is before it
+pub run-walk : (view : View) {t w : List ℕ} {passed at : ℕ} (more : List ℕ) (ps : List Piece) (front : List Piece) (v : Walk) → IsUtf8 t → pieces_of t ≡ front ++ Text (w ++ more) ∷ ps → list_all is_printable (plain_of front) ≡ true → passed ≡ length (spelled front) → IsPlainPart t w passed at
+    → 0 < length w → v.position ≡ length (plain_of front) → v.offset ≡ passed → v.run_end ≡ at → v.break_state ≡ break_state_of [] → IsWalkIn view t v
+run-walk view {t} {w} more ps front v utf8 pieces printable bytes part some place offset run_end break_state =
+    let rest = plain_of (Text (w ++ more) ∷ ps) in
+    let text : plain t ≡ plain_of front ++ rest = ap plain_of pieces ∙ flat_map-append plain_bytes front (Text (w ++ more) ∷ ps) in
+    run-walk-in view more ps front v pieces (front-state view t utf8 (plain_of front) rest text printable) bytes part some place offset run_end break_state

@@ -28,8 +28,8 @@ pub mod IndentLawLemmas
 pub mod TailLemmas
 pub mod RowLemmas
 pub mod PlainCellLemmas
-pub mod PrintableTextLemmas
 pub mod FrontRunLemmas
+pub mod PlainTextLemmas
 pub mod NearCellLemmas
 pub mod PlainFrontLemmas
 pub mod BareLemmas

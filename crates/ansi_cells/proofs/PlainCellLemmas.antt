@@ -1,10 +1,10 @@
 -- Texts of cells that are printable ASCII and SGRs alone: what one pass over the pieces finds, and the text truncated and padded.
-use Rattle.std.proofs.Common.{◌≡◌, ℕ, suc, if◌then◌else◌, ◌+◌, ◌-◌, ◌<◌, ◌==◌, Bool, true, false, not, ◌&&◌, ◌||◌, List, [], ◌∷◌, ◌++◌, length, take, slice_index, chars, nat_le, nat_eq, IsTrue, refl, sym, ◌∙◌, ap, ap₂, subst, arith, append-nil, append_assoc, length-append}
+use Rattle.std.proofs.Common.{◌≡◌, ℕ, suc, if◌then◌else◌, ◌+◌, ◌-◌, ◌<◌, ◌≤◌, ◌==◌, Bool, true, false, not, ◌&&◌, ◌||◌, List, [], ◌∷◌, ◌++◌, length, take, slice_index, chars, nat_le, nat_eq, min, IsTrue, refl, sym, ◌∙◌, ap, ap₂, subst, arith, append-nil, append_assoc, length-append}
 use Rattle.std.specs.List.{list_all, prefix_len}
 use Rattle.std.specs.Str.{IsUtf8}
 use Rattle.std.proofs.lemmas.Bool.{and_from, and_parts, le-leb}
 use Rattle.std.proofs.lemmas.Bool.Decides.{nat_tests}
-use Rattle.std.proofs.lemmas.List.{take_all, get_or-append-add}
+use Rattle.std.proofs.lemmas.List.{take_all, get_or-append-add, length-take-le}
 use Rattle.std.proofs.lemmas.Grind.{flat_map-append}
 use Rattle.std.proofs.lemmas.List.Folds.{list_all-append}
 use Rattle.std.proofs.lemmas.Str.{chars-IsAscii, IsCharBoundary-end, IsUtf8-from_ascii}
@@ -33,6 +33,7 @@ use Rattle.ansi_safe.specs.declared.policy.Links.{Links}
 use Rattle.ansi_safe.specs.Cells.{cell, is_cell}
 use Rattle.ansi_safe.specs.Links.{link_of, opens_link}
 use Rattle.ansi_safe.proofs.AllowedLemmas.{stand_after_ordinary}
+use Rattle.ansi_safe.proofs.FrontLemmas.{prefix_len-take}
 use Rattle.ansi_safe.proofs.CellTextLemmas.{cell-stays, whole-cell}
 use Rattle.ansi_safe.proofs.LinkLemmas.{is_link-sgr, link_of-pieces, link_through}
 use Rattle.ansi_clusters.specs.Columns.{clusters, columns, columns_of, bytes_of, FitsUpTo, fitting_end}
@@ -323,3 +324,11 @@ printable-test (b ∷ w) = by (is_printable b) (printable-test w)
     by : (p : Bool) → nat_eq (prefix_len is_printable w) (length w) ≡ list_all is_printable w → nat_eq (if p then 1 + prefix_len is_printable w else 0) (suc (length w)) ≡ (p && list_all is_printable w)
     by true same = one-more (prefix_len is_printable w) (length w) ∙ same
     by false same = none-more (length w)
+
+pub as-least : (n m : ℕ) → nat_le n m ≡ nat_eq (min m n) n
+as-least n m = grind (arith, nat_tests)
+
+-- n bytes are printable if at least that many are at the front
+pub printable-front : (n : ℕ) (x : List ℕ) → n ≤ length x → nat_le n (prefix_len is_printable x) ≡ list_all is_printable (take n x)
+printable-front n x inside =
+    as-least n (prefix_len is_printable x) ∙ ap₂ nat_eq (sym (prefix_len-take is_printable n x)) (sym (length-take-le n x inside)) ∙ printable-test (take n x)

@@ -1,8 +1,8 @@
 //! The texts of cells that are printable ASCII and select graphic renditions alone. They stay as
 //! they are, and one pass tells their columns and the style at their end, or where they are cut and
 //! the style there. A paragraph that fits into one line is such a text too.
-ghost use Rattle.std.specs.Prelude.{◌≡◌, ◌<◌, ◌≤◌, ℕ, IfSome, MatchOption, IsTrue, length, slice_range};
-ghost use Rattle.std.specs.List.{list_all};
+ghost use Rattle.std.specs.Prelude.{◌≡◌, ◌-◌, ◌<◌, ◌≤◌, ℕ, min, IfSome, MatchOption, IsTrue, length, slice_range};
+ghost use Rattle.std.specs.List.{list_all, prefix_len};
 ghost use Rattle.ansi_style.specs.Rendition.{plain_style};
 ghost use Rattle.ansi_style.specs.States.{rendition_of};
 ghost use Rattle.ansi_safe.specs.Safe.{is_printable_byte};
@@ -34,7 +34,7 @@ pub struct PlainFront {
 }
 
 /// How many bytes at the front of a text are searched for sequences. A search for the next one of a longer
-/// text could read far past the width, and `widths::width` would read much of it twice.
+/// text could read far past the width.
 pub(crate) const LONGEST: usize = 512;
 
 /// How many bytes before the end of that part a run has to end. A sequence after it could be cut.
@@ -244,13 +244,24 @@ pub(crate) fn plain_cut(
     })
 }
 
-/// Whether each byte from `start` up to `end` is printable ASCII. Up to 16 bytes after it may be looked at
-/// too, so that a short run is read 16 bytes at a time as well.
+/// Whether each byte from `start` up to `end` is printable ASCII.
 pub(crate) fn is_printable(text: &str, start: usize, end: usize) -> bool
     requires ordered { start ≤ end }
     requires within { end ≤ length text.now }
     ensures { result ≡ list_all is_printable_byte (slice_range text.now start end) }
 {
+    end - start <= printable_near(text, start, end)
+}
+
+/// How many bytes of printable ASCII come next from `start` on. Up to 16 bytes after `end` may be looked at
+/// too, and be among them, so that a short run is read 16 bytes at a time as well.
+#[inline(always)]
+pub(crate) fn printable_near(text: &str, start: usize, end: usize) -> usize
+    requires ordered { start ≤ end }
+    requires within { end ≤ length text.now }
+    ensures { min result (end - start)
+        ≡ prefix_len is_printable_byte (slice_range text.now start end) }
+{
     let near = text.len().min(end.saturating_add(16));
-    end - start <= printable_len(&text.as_bytes()[start..near])
+    printable_len(&text.as_bytes()[start..near])
 }

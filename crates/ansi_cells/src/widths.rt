@@ -1,11 +1,14 @@
 //! The width of a text.
-ghost use Rattle.std.specs.Prelude.{◌≡◌, MatchOption};
+ghost use Rattle.std.specs.Prelude.{◌≡◌, ◌≤◌, slice_range, MatchOption};
+ghost use Rattle.std.specs.Str.{IsCharBoundary};
 ghost use Rattle.ansi_clusters.specs.declared.views.View.{View};
 ghost use Rattle.ansi_clusters.specs.Columns.{columns};
+ghost use Rattle.ansi_clusters.specs.Letters.{IsPlainFront};
 ghost use Rattle.ansi_clusters.specs.Views.{seen_text};
 ghost use Rattle.ansi_clusters.specs.Walks.{IsWalkIn, IsCounted, IsCountedTo};
 
-use crate::plain_cells::{LONGEST, is_printable};
+use crate::plain_cells::printable_near;
+use ansi_clusters::letters::plain_front;
 use ansi_clusters::views::View;
 use ansi_clusters::walks::Walk;
 use ansi_items::ansitok::{Kind, Scanner};
@@ -14,37 +17,56 @@ use ansi_items::ansitok::{Kind, Scanner};
 pub fn width(text: &str, view: View) -> usize
     ensures { result ≡ columns (seen_text view text.now) }
 {
-    match printable_runs(text) {
+    match plain_runs(text) {
         (columns, None) => columns,
         (columns, Some(next)) => walked_width(text, view, next, columns),
     }
 }
 
-/// The columns of the runs of a text that are printable ASCII, up to another one, and the walk at that
-/// one. If that may join the character before it, they are none, and the walk is at the beginning. A
-/// long text isn't looked at.
-fn printable_runs(text: &str) -> (usize, Option<Walk>)
+/// The columns of the characters of a text that are clusters by themselves beside each other, up to another
+/// one, and the walk before the last of them. If the other one may join a character before a sequence, they
+/// are none, and the walk is at the beginning.
+fn plain_runs(text: &str) -> (usize, Option<Walk>)
     ensures { MatchOption result.1 ((view : View) → result.0 ≡ columns (seen_text view text.now))
         (IsCounted text.now result.0) }
 {
-    if LONGEST < text.len() {
-        return (0, Some(Walk::start(text)));
-    }
+    let mut position = 0;
     let mut columns = 0;
     for item in Scanner::new(text) {
         if item.kind != Kind::Text {
             continue;
         }
-        if !is_printable(text, item.start, item.end) {
-            let next = Walk::at_run(&item, columns);
-            if next.ends_ascii(text) {
-                return (columns, Some(next));
+        let (len, more) = plain_part(text, item.start, item.end);
+        if len < item.end - item.start {
+            let run = Walk::at_run(&item, position);
+            if len == 0 {
+                if position > 0 && !run.ends_ascii(text) {
+                    return (0, Some(Walk::start(text)));
+                }
+                return (columns, Some(run));
             }
-            return (0, Some(Walk::start(text)));
+            let (walk, more) = run.past_plain(text, len, more);
+            return (columns + more, Some(walk));
         }
-        columns += item.end - item.start;
+        position += len;
+        columns += more;
     }
     (columns, None)
+}
+
+/// How many bytes of such characters a run begins with, and their columns.
+fn plain_part(text: &str, start: usize, end: usize) -> (usize, usize)
+    requires ordered { start ≤ end }
+    requires start { IsCharBoundary text.now start }
+    requires end { IsCharBoundary text.now end }
+    ensures { IsPlainFront (slice_range text.now start end) result.0 result.1 }
+{
+    let ascii = printable_near(text, start, end).min(end - start);
+    if ascii == end - start || text.as_bytes()[start + ascii] < 0x80 {
+        return (ascii, ascii);
+    }
+    let (len, columns) = plain_front(&text[start + ascii..end]);
+    (ascii + len, ascii + columns)
 }
 
 /// The columns of what is seen of a text, cluster by cluster, after a walk before which there are

@@ -1,18 +1,18 @@
 -- Letters of two bytes and printable ASCII: each is a cluster of one column beside another.
-use Rattle.std.proofs.Common.{◌≡◌, ℕ, Bool, suc, ◌+◌, ◌<◌, ◌≤◌, true, false, ◌&&◌, get_or, List, [], ◌∷◌, ◌++◌, length, take, drop, chars, cond, slice_range, encode_utf8, encode_utf8_all, refl, sym, ◌∙◌, ap, ap₂, subst, arith, append-nil, append_assoc, length-append, take-append-drop, ◌-◌, ◌≢◌, take-add}
+use Rattle.std.proofs.Common.{◌≡◌, ℕ, Bool, suc, ◌+◌, ◌<◌, ◌≤◌, true, false, ◌&&◌, ◌||◌, get_or, List, [], ◌∷◌, ◌++◌, length, take, drop, chars, cond, slice_range, encode_utf8, encode_utf8_all, refl, sym, ◌∙◌, ap, ap₂, subst, arith, append-nil, append_assoc, length-append, take-append-drop, ◌-◌, ◌≢◌, ◌*◌, take-add}
 use Rattle.std.specs.List.{list_all, count_by, prefix_len}
 use Rattle.std.specs.Str.{IsUtf8, IsCharBoundary, byte}
 use Rattle.std.proofs.lemmas.Bool.{agree_below, agree_below_at, and_parts}
 use Rattle.std.proofs.lemmas.Bool.Decides.{nat_tests}
-use Rattle.std.proofs.lemmas.List.{drop-drop, length-take, length-take-le, take_at}
+use Rattle.std.proofs.lemmas.List.{drop-drop, drop_at, length-take, length-take-le, take_at}
 use Rattle.std.proofs.lemmas.List.Folds.{list_all-append}
 use Rattle.std.proofs.lemmas.List.Sums.{sum_by-append, sum_by-cons, prefix_len-le-length, prefix_len_stops}
-use Rattle.std.proofs.lemmas.Str.{IsUtf8-take, IsUtf8-drop, IsCharBoundary-past_char, length-encode, chars-append, encodes-append, encodes-chars}
+use Rattle.std.proofs.lemmas.Str.{IsUtf8-take, IsUtf8-drop, IsCharBoundary-past_char, IsCharBoundary-from_rest, IsCharBoundary-from_take, IsCharBoundary-start, IsUtf8-from_ascii, chars-IsAscii, chars-nil, length-encode, chars-append, encodes-append, encodes-chars}
 use Rattle.ansi_clusters.specs.declared.break_state.BreakState.{BreakState}
 use Rattle.ansi_clusters.specs.declared.walks.Walk.{Walk}
 use Rattle.ansi_clusters.specs.declared.views.View.{View}
 use Rattle.ansi_clusters.specs.BreakStates.{break_state_of}
-use Rattle.ansi_clusters.specs.Letters.{is_letter, is_letter_byte, is_first_byte, AreLettersBefore, IsPlainSingle, ArePlain, ArePlainBefore, AreWide, AreWideBefore}
+use Rattle.ansi_clusters.specs.Letters.{is_letter, is_letter_byte, is_first_byte, AreLettersBefore, IsPlainSingle, ArePlain, IsPlainFront, ArePlainBefore, AreWide, AreWideBefore}
 use Rattle.ansi_clusters.specs.Walks.{IsWalkIn, IsNext, IsPastClusters}
 use Rattle.ansi_clusters.specs.Words.{ArePastLetters}
 use Rattle.unicode_segmentation.specs.Grapheme.{ends_in_linker, ends_in_pictograph, ends_in_half_flag}
@@ -20,6 +20,14 @@ use Rattle.ucd_breaks.specs.declared.GraphemeClusterBreak.TheVariants.{Other}
 use Rattle.ansi_clusters.proofs.SingleLemmas.{IsShownSingle-letter, letter-elsewhere, single-elsewhere, break_state-single}
 use Rattle.ansi_clusters.proofs.SingleWalkLemmas.{walk_past, past-single, clusters-single, letters-none, letters-single}
 use Rattle.ansi_clusters.proofs.WalkLemmas.{rest_at}
+use Rattle.std.proofs.lemmas.Str.Ascii.{IsAscii-from_all}
+use Rattle.ansi_clusters.proofs.AsciiLemmas.{is_printable, All-printable_is_ascii}
+use Rattle.ansi_clusters.proofs.WidthLemmas.{width-alone-bound}
+use Rattle.std.specs.Int.{is_in_range}
+use Rattle.std.specs.Char.{len_utf8}
+use Rattle.ansi_clusters.specs.Columns.{cluster_width}
+use Rattle.ansi_items.proofs.SequenceLemmas.{all-run}
+use Rattle.unicode_segmentation.proofs.TextLemmas.{IsUtf8-after, chars-encode_utf8}
 
 -- ---- the characters of bytes of letters
 
@@ -66,7 +74,7 @@ letters-before t w rest k text utf8 all boundary inside =
     }
 
 -- a part of a part of a part at the front of a text
-slice-front : (t : List ℕ) (n : ℕ) → slice_range t 0 n ≡ take n t
+pub slice-front : (t : List ℕ) (n : ℕ) → slice_range t 0 n ≡ take n t
 slice-front t n = (let count : n - 0 ≡ n = omega arith in ap (λ k. take k t) count)
 
 module _ (t near w front : List ℕ) (m n k : ℕ) (near_is : near ≡ slice_range t 0 m) (w_is : w ≡ slice_range near 0 n) (front_is : front ≡ slice_range w 0 k) where
@@ -131,13 +139,16 @@ count-letters (c ∷ cs) all =
 -- ---- a walk over them
 
 -- the state after such a character, as after nothing
-plain-state : {c width : ℕ} (before : List ℕ) → IsPlainSingle c width → break_state_of [] ≡ break_state_of (c ∷ before)
+pub plain-state : {c width : ℕ} (before : List ℕ) → IsPlainSingle c width → break_state_of [] ≡ break_state_of (c ∷ before)
 unfolding ends_in_linker ends_in_pictograph ends_in_half_flag
 plain-state {c} before is = break_state-single c before Other is.shown.single (single-elsewhere c is.shown.single.break is.elsewhere)
 
 -- a letter is one
 letter-single : (c : ℕ) → is_letter c ≡ true → IsPlainSingle c 1
 letter-single c is = record { shown = IsShownSingle-letter c is; elsewhere = letter-elsewhere c is }
+
+printable-letter : (c : ℕ) → is_printable c ≡ true → is_letter c ≡ true
+printable-letter c printable = ap (λ b. b || (is_in_range 0xC0 0x2FF c || is_in_range 0x380 0x47F c)) printable
 
 -- the walk after n bytes of them
 abbrev pub past_letter_bytes : Walk → ℕ → Walk
@@ -148,6 +159,12 @@ plain-letters [] all = refl
 plain-letters (c ∷ cs) all =
     let both = and_parts (is_letter c) (list_all is_letter cs) all in
     (1, length cs, letter-single c both.0, plain-letters cs both.1, omega arith)
+
+pub plain-printable : (x : List ℕ) → list_all is_printable x ≡ true → ArePlain x (length x)
+plain-printable [] all = refl
+plain-printable (c ∷ x) all =
+    let both = and_parts (is_printable c) (list_all is_printable x) all in
+    (1, length x, letter-single c (printable-letter c both.0), plain-printable x both.1, omega arith)
 
 plain-wide : (cs : List ℕ) (n : ℕ) → AreWide cs n → ArePlain cs n
 plain-wide [] n none = none
@@ -180,8 +197,102 @@ clusters-plain {view} {t} {from} c (e ∷ cs) {w} {n} m d last more utf8 so_far 
     subst (λ k. IsPastClusters view t from (past_letter_bytes w (length (encode_utf8_all (c ∷ (e ∷ cs))))) k) count
     (subst (λ v. IsPastClusters view t from v (n + width + left)) (ap₂ at position offset) all_past)
 
+-- ---- the front of a text that is such characters
+
+pub plain-append : (cs ds : List ℕ) (n m : ℕ) → ArePlain cs n → ArePlain ds m → ArePlain (cs ++ ds) (n + m)
+plain-append [] ds n m none all = (let same : m ≡ n + m = omega (arith, none) in subst (ArePlain ds) same all)
+plain-append (c ∷ cs) ds n m all more = (all.0, all.1 + m, all.2, plain-append cs ds all.1 m all.3 more, omega (arith, all.4))
+
+plain-last : (cs : List ℕ) (c n : ℕ) → ArePlain (cs ++ c ∷ []) n → (m : ℕ) × (width : ℕ) × ArePlain cs m × IsPlainSingle c width × (n ≡ m + width)
+plain-last [] c n all = (0, all.0, refl, all.2, omega (arith, all.4, all.3))
+plain-last (e ∷ cs) c n all =
+    let rest = plain-last cs c all.1 all.3 in
+    (all.0 + rest.0, rest.1, (all.0, rest.0, all.2, rest.2, refl), rest.3, omega (arith, all.4, rest.4))
+
+-- each has at most two columns for a byte
+pub plain-bound : (cs : List ℕ) (n : ℕ) → ArePlain cs n → n ≤ 2 * length (encode_utf8_all cs)
+plain-bound [] n none = omega (arith, none)
+plain-bound (c ∷ cs) n all = omega (arith, all.4, all.2.shown.columns_are, width-alone-bound c, plain-bound cs all.1 all.3, length-append (encode_utf8 c) (encode_utf8_all cs))
+
+-- what is left after some bytes
+pub rest-past : (t : List ℕ) (at : ℕ) (first rest : List ℕ) → drop at t ≡ first ++ rest → drop (at + length first) t ≡ rest
+rest-past t at first rest bytes = sym (drop-drop (length first) at t) ∙ ap (drop (length first)) bytes ∙ drop_at first rest (length first) refl
+
+-- none
+pub front-none : (t : List ℕ) → IsUtf8 t → IsPlainFront t 0 0
+front-none t utf8 = record { boundary = IsCharBoundary-start t utf8; plain = subst (λ cs. ArePlain cs 0) (sym chars-nil) refl }
+
+module _ (t : List ℕ) (utf8 : IsUtf8 t) where
+  pub front-bound : {at n : ℕ} → IsPlainFront t at n → n ≤ 2 * at
+  front-bound {at} {n} front =
+      omega (arith, plain-bound (chars (take at t)) n front.plain, ap length (encodes-chars (take at t) (IsUtf8-take t at utf8 front.boundary)), length-take-le at t front.boundary.0)
+
+  -- more of them after some
+  pub front-more : {at len n m : ℕ} → IsPlainFront t at n → IsPlainFront (drop at t) len m → IsPlainFront t (at + len) (n + m)
+  front-more {at} {len} {n} {m} front more =
+      let split : chars (take (at + len) t) ≡ chars (take at t) ++ chars (take len (drop at t)) = ap chars (take-add at len t) ∙ chars-append (take at t) (take len (drop at t)) (IsUtf8-take t at utf8 front.boundary) in
+      record {
+        boundary = IsCharBoundary-from_rest t at len front.boundary.0 more.boundary;
+        plain = subst (λ cs. ArePlain cs (n + m)) (sym split) (plain-append (chars (take at t)) (chars (take len (drop at t))) n m front.plain more.plain);
+      }
+
+  -- letters are such characters
+  pub front-letters : (n : ℕ) → n ≡ prefix_len is_letter_byte t → IsPlainFront t n (count_by is_first_byte (take n t))
+  front-letters n is =
+      let boundary = subst (IsCharBoundary t) (sym is) (boundary-letters t utf8) in
+      let w = take n t in
+      let w_utf8 = IsUtf8-take t n utf8 boundary in
+      let all : list_all is_letter_byte w ≡ true = ap (λ k. list_all is_letter_byte (take k t)) is ∙ all-run is_letter_byte t in
+      let letters = letters-chars w w_utf8 all in
+      let count : length (chars w) ≡ count_by is_first_byte w = sym (count-letters (chars w) letters) ∙ ap (count_by is_first_byte) (encodes-chars w w_utf8) in
+      record { boundary = boundary; plain = subst (ArePlain (chars w)) count (plain-letters (chars w) letters) }
+
+  -- and so is printable ASCII
+  pub front-printable : (n : ℕ) → n ≡ prefix_len is_printable t → IsPlainFront t n n
+  front-printable n is =
+      let w = take n t in
+      let within : n ≤ length t = omega (arith, is, prefix_len-le-length is_printable t) in
+      let all : list_all is_printable w ≡ true = ap (λ k. list_all is_printable (take k t)) is ∙ all-run is_printable t in
+      let ascii = IsAscii-from_all w (All-printable_is_ascii w all) in
+      record {
+        boundary = IsCharBoundary-from_take t n utf8 within (IsUtf8-from_ascii w ascii);
+        plain = subst (λ cs. ArePlain cs n) (sym (chars-IsAscii w ascii)) (subst (ArePlain w) (length-take-le n t within) (plain-printable w all));
+      }
+
+  -- a character is one
+  pub front-first : (c width : ℕ) (rest : List ℕ) → t ≡ encode_utf8 c ++ rest → IsPlainSingle c width → IsPlainFront t (length (encode_utf8 c)) width
+  front-first c width rest first single =
+      let boundary : IsCharBoundary t (length (encode_utf8 c)) = subst (IsCharBoundary t) (let size : 0 + len_utf8 c ≡ length (encode_utf8 c) = omega (arith, length-encode c) in size) (IsCharBoundary-past_char t rest 0 c (omega arith) utf8 first) in
+      let bytes : take (length (encode_utf8 c)) t ≡ encode_utf8 c = ap (take (length (encode_utf8 c))) first ∙ take_at (encode_utf8 c) rest (length (encode_utf8 c)) refl in
+      let one : chars (take (length (encode_utf8 c)) t) ≡ c ∷ [] = ap chars bytes ∙ chars-encode_utf8 c (subst IsUtf8 bytes (IsUtf8-take t (length (encode_utf8 c)) utf8 boundary)) in
+      record { boundary = boundary; plain = subst (λ cs. ArePlain cs width) (sym one) (width, 0, single, refl, omega arith) }
+
+  -- before the last of them
+  pub front-before : {len n : ℕ} (last : ℕ) (front : List ℕ) → IsUtf8 front → IsPlainFront t len n → take len t ≡ front ++ encode_utf8 last → (width : ℕ) × (m : ℕ) × (n ≡ m + width) × (width ≡ cluster_width (last ∷ [])) × ArePlainBefore t (take (length front) t) m
+  front-before {len} {n} last front front_utf8 all is =
+      let whole_utf8 = IsUtf8-take t len utf8 all.boundary in
+      let cs : chars (take len t) ≡ chars front ++ last ∷ [] = ap chars is ∙ chars-append front (encode_utf8 last) front_utf8 ∙ ap (λ u. chars front ++ u) (chars-encode_utf8 last (IsUtf8-after (take len t) front (encode_utf8 last) whole_utf8 front_utf8 is)) in
+      let parts = plain-last (chars front) last n (subst (λ ds. ArePlain ds n) cs all.plain) in
+      let bytes : t ≡ front ++ (encode_utf8 last ++ drop len t) = sym (take-append-drop len t) ∙ ap (λ u. u ++ drop len t) is ∙ append_assoc front (encode_utf8 last) (drop len t) in
+      let taken : take (length front) t ≡ front = ap (take (length front)) bytes ∙ take_at front (encode_utf8 last ++ drop len t) (length front) refl in (
+        parts.1,
+        parts.0,
+        parts.4,
+        parts.3.shown.columns_are,
+        record {
+          singles = chars front;
+          last = last;
+          width = parts.1;
+          more = drop len t;
+          all = parts.2;
+          last_is = parts.3;
+          front_is = taken ∙ sym (encodes-chars front front_utf8);
+          bytes = bytes ∙ ap (λ u. u ++ (encode_utf8 last ++ drop len t)) (sym taken);
+        },
+      )
+
 -- a walk over no clusters
-clusters-nothing : {view : View} {t : List ℕ} {w : Walk} → IsWalkIn view t w → IsPastClusters view t w w 0
+pub clusters-nothing : {view : View} {t : List ℕ} {w : Walk} → IsWalkIn view t w → IsPastClusters view t w w 0
 clusters-nothing walk = record { clusters = []; walk = walk; ordered = omega arith; all = refl; seen = omega arith; each = refl; columns_are = refl; bound = omega arith }
 
 -- a walk over the characters that the run begins with, but the last one

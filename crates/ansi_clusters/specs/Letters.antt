@@ -1,8 +1,8 @@
 -- Letters that are clusters of one column beside each other, and ideographs. No public contract cites it.
-use Rattle.std.specs.Prelude.{◌≡◌, ◌≢◌, ℕ, ◌+◌, ◌||◌, Bool, false, List, [], ◌∷◌, ◌++◌, nat_lt, nat_le, encode_utf8, encode_utf8_all, IsTrue}
+use Rattle.std.specs.Prelude.{◌≡◌, ◌≢◌, ℕ, ◌+◌, ◌||◌, Bool, false, List, [], ◌∷◌, ◌++◌, take, chars, nat_lt, nat_le, encode_utf8, encode_utf8_all, IsTrue}
 use Rattle.std.specs.Int.{is_in_range}
 use Rattle.std.specs.List.{list_all}
-use Rattle.std.specs.Str.{byte}
+use Rattle.std.specs.Str.{byte, IsCharBoundary}
 use Rattle.ansi_clusters.specs.BreakStates.{IsShownSingle}
 
 -- a character of printable ASCII, or a letter or mark of U+00C0 to U+02FF or of U+0380 to U+047F
@@ -36,6 +36,11 @@ pub record IsPlainSingle (c columns : ℕ) : Type 0 where
 abbrev pub ArePlain : List ℕ → ℕ → Type 0
 ArePlain [] columns = columns ≡ 0
 ArePlain (c ∷ cs) columns = (width : ℕ) × (more : ℕ) × IsPlainSingle c width × ArePlain cs more × (columns ≡ width + more)
+
+-- the first n bytes of the text are such characters, which have this number of columns together
+pub record IsPlainFront (t : List ℕ) (n columns : ℕ) : Type 0 where
+  pub boundary : IsCharBoundary t n
+  pub plain : ArePlain (chars (take n t)) columns
 
 -- the text begins with such characters, which have these bytes and columns, and with another one after them
 pub record ArePlainBefore (t front : List ℕ) (columns : ℕ) : Type 0 where

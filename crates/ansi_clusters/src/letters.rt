@@ -1,20 +1,22 @@
 //! Letters of two bytes and printable ASCII, which are clusters of one column beside each other, and
 //! ideographs and the like.
-ghost use Rattle.std.specs.Prelude.{◌≡◌, ◌≢◌, ◌<◌, ◌≤◌, length, take, IfSome};
+ghost use Rattle.std.specs.Prelude.{◌≡◌, ◌≢◌, ◌<◌, ◌≤◌, length, take, IfSome, slice_range};
 ghost use Rattle.std.specs.List.{count_by, prefix_len};
 ghost use Rattle.ansi_clusters.specs.Letters.{is_letter_byte, is_first_byte, AreLettersBefore};
-ghost use Rattle.ansi_clusters.specs.Letters.{IsPlainSingle, ArePlainBefore, AreWideBefore};
+ghost use Rattle.ansi_clusters.specs.Letters.{IsPlainSingle, IsPlainFront, ArePlainBefore, AreWideBefore};
 
 use crate::singles::single_columns;
-use crate::walks::Walk;
+use crate::walks::{Walk, char_width};
+use ansi_safe::printable::printable_len;
 use std::simd::prelude::*;
 
 /// The least number of bytes of a run, and of columns that are left, for which a stretch is looked for.
 const LEAST: usize = 16;
 
 impl Walk {
-    ghost use Rattle.std.specs.Prelude.{◌≤◌};
+    ghost use Rattle.std.specs.Prelude.{◌≤◌, slice_range};
     ghost use Rattle.ansi_clusters.specs.declared.views.View.{View};
+    ghost use Rattle.ansi_clusters.specs.Letters.{IsPlainFront};
     ghost use Rattle.ansi_clusters.specs.Walks.{IsWalkIn, IsAnyWalk, IsPastClusters};
     ghost use Rattle.ansi_clusters.specs.Words.{ArePastLetters};
 
@@ -57,6 +59,94 @@ impl Walk {
         }
         (self.on(len), columns)
     }
+
+    /// The walk before the last of the characters that `plain_front` has found in the run, and the columns of
+    /// those before it. Each of them is a cluster by itself.
+    pub fn past_plain(self, text: &str, len: usize, columns: usize) -> (Walk, usize)
+        requires walk { IsAnyWalk text.now self }
+        requires front { IsPlainFront (slice_range text.now self.offset self.run_end) len columns }
+        ensures { (view : View) → IsWalkIn view text.now self →
+            IsPastClusters view text.now self result.0 result.1 }
+    {
+        let run = &text[self.offset..self.run_end];
+        let mut chars = run[..len].chars();
+        let Some(last) = chars.next_back() else {
+            return (self, 0);
+        };
+        let front = chars.as_str().len();
+        if front == 0 {
+            return (self, 0);
+        }
+        (self.on(front), columns - char_width(last))
+    }
+}
+
+/// How many bytes of characters that no rule on clusters joins to each other a run begins with, and their
+/// columns. Hangul syllables aren't among them.
+pub fn plain_front(run: &str) -> (usize, usize)
+    ensures { IsPlainFront run.now result.0 result.1 }
+{
+    let mut at = 0;
+    let mut columns = 0;
+    'parts: while at < run.len() {
+        let (len, more) = plain_part(&run[at..]);
+        if len == 0 {
+            break;
+        }
+        at += len;
+        columns += more;
+    }
+    (at, columns)
+}
+
+/// The same of one kind: printable ASCII, letters, or other characters up to two of ASCII.
+#[inline(always)]
+fn plain_part(text: &str) -> (usize, usize)
+    ensures { IsPlainFront text.now result.0 result.1 }
+{
+    match text.as_bytes() {
+        [0x20..=0x7E, ..] => {
+            let len = printable_len(text.as_bytes());
+            (len, len)
+        }
+        [0xC3..=0xCB | 0xCE..=0xD1, ..] => {
+            let len = letters_len(text.as_bytes());
+            (len, letter_count(&text[..len]))
+        }
+        _ => others_front(text),
+    }
+}
+
+/// The same of any characters, up to two of ASCII.
+#[inline(always)]
+fn others_front(text: &str) -> (usize, usize)
+    ensures { IsPlainFront text.now result.0 result.1 }
+{
+    let mut rest = text;
+    let mut columns = 0;
+    let mut chars = text.chars();
+    'characters: while let Some(c) = chars.next() {
+        if c.is_ascii() && matches!(chars.as_str().as_bytes(), [0..=0x7F, ..]) {
+            break;
+        }
+        let Some(width) = plain_columns(c) else {
+            break;
+        };
+        rest = chars.as_str();
+        columns += width;
+    }
+    (text.len() - rest.len(), columns)
+}
+
+/// The columns of a single character that is no Hangul syllable.
+#[inline(always)]
+fn plain_columns(c: char) -> Option<usize>
+    ensures { IfSome result (IsPlainSingle c) }
+{
+    if matches!(c, '\u{AC00}'..='\u{D7A3}') {
+        return None;
+    }
+    single_columns(c)
 }
 
 /// Whether a run seems to begin with a stretch of which it pays to look at all.

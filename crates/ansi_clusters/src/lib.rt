@@ -7,7 +7,7 @@
 pub mod break_state;
 pub mod fits;
 mod from_end;
-mod letters;
+pub mod letters;
 pub mod line_walks;
 pub mod lines;
 mod singles;

@@ -708,7 +708,7 @@ fn breaks_after_ascii(c: char) -> bool
 
 /// The columns of a cluster of one character.
 #[inline]
-fn char_width(c: char) -> usize
+pub(crate) fn char_width(c: char) -> usize
     ensures value { result ≡ cluster_width (c ∷ []) }
     ensures bound { result ≤ 2 * length (encode_utf8 c) }
 {

@@ -4,7 +4,7 @@ use Rattle.std.proofs.lemmas.Bool.{eqb-true, le-leb}
 use Rattle.std.proofs.lemmas.List.{take_all}
 use Rattle.ansi_safe.specs.Safe.{is_printable_byte}
 use Rattle.ansi_cells.specs.PlainCells.{last_byte}
-use Rattle.ansi_cells.proofs.PrintableTextLemmas.{printable-front}
+use Rattle.ansi_cells.proofs.PlainCellLemmas.{printable-front}
 use Rattle.ansi_calls.proofs.BareLineLemmas.{only-bare}
 use Rattle.ansi_calls.proofs.lines.is_bare_line.Goals as goal
 
