@@ -10,7 +10,7 @@ use Rattle.ansi_items.specs.Pieces.{Piece, Text, pieces_of}
 use Rattle.ansi_items.specs.Plain.{plain, marks}
 use Rattle.ansi_style.specs.Rendition.{plain_style}
 use Rattle.ansi_style.specs.Written.{close}
-use Rattle.ansi_items.proofs.PlainLemmas.{pieces_of-bare, has_escape-bare, plain-bare as plain_of-bare}
+use Rattle.ansi_items.proofs.PlainLemmas.{pieces_of-bare, has_escape-bare}
 use Rattle.ansi_safe.specs.Cells.{paragraph}
 use Rattle.ansi_safe.specs.Safe.{is_printable_byte, is_printing, is_allowed, all_allowed}
 use Rattle.ansi_safe.proofs.CellLemmas.{placed-stays}
@@ -18,7 +18,7 @@ use Rattle.ansi_safe.proofs.FrontLemmas.{printable-ascii}
 use Rattle.ansi_clusters.specs.Columns.{clusters}
 use Rattle.ansi_clusters.specs.Lines.{lines_from}
 use Rattle.ansi_cells.specs.PlainCells.{IsPlainCell, last_byte}
-use Rattle.ansi_cells.specs.Wrapped.{CarriedPart, lines_over, line_over}
+use Rattle.ansi_cells.specs.Wrapped.{CarriedPart, lines_over}
 use Rattle.ansi_clusters.proofs.AsciiLemmas.{printable-prints}
 use Rattle.ansi_wraps.proofs.LentLemmas.{wrapped-itself}
 use Rattle.ansi_wraps.proofs.OnlyLineLemmas.{only-line, only-bytes}
@@ -61,9 +61,7 @@ module _ (b : ℕ) (w : List ℕ) (width : ℕ) (utf8 : IsUtf8 (b ∷ w)) (fits 
   only : last_byte t ≢ 0x20 → wrapped_lines t width ≡ t ∷ []
   only solid =
       let some : max width 1 ≡ width = omega (arith, fits) in
-      let end : width - (width - length t) ≡ length (plain t) = omega (arith, fits, ap length (plain_of-bare t (has_escape-bare t (all-stay t all).2))) in
       ap (map (λ (l : CarriedPart). l.bytes)) (wrapped-itself t width stays ∙ ap (λ n. lines_over plain_style [] (plain t) (marks t) (lines_from n 0 0 0 0 (clusters (plain t)))) some ∙ only-line is solid)
-      ∙ ap (λ n. (line_over plain_style [] (plain t) (marks t) (0, n)).bytes ∷ []) end
       ∙ ap (λ u. u ∷ []) (only-bytes t is.text.link_is) ∙ ap (λ s. (t ++ close s) ∷ []) (sym is.text.style_is) ∙ ap (λ u. u ∷ []) (append-nil t)
 
 pub only-bare : (t : List ℕ) (width : ℕ) → IsUtf8 t → 0 < length t → length t ≤ width → list_all is_printable_byte t ≡ true → last_byte t ≢ 0x20 → wrapped_lines t width ≡ t ∷ []

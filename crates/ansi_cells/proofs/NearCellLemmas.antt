@@ -58,8 +58,8 @@ run-on u v (p ∷ front) w ps are all =
     (later.0, later.1, (are.0 ++ v, ap (λ x. x ++ v) are.1 ∙ append_assoc (spelling p) are.0 v, stands-before-more p are.0 v both.0 (filled are.0 front w ps are.3) are.2, later.2))
 
 -- what was passed before the run
-pub so_far-near : {u w : List ℕ} {width left last passed : ℕ} {style : Rendition} {ps : List Piece} (v : List ℕ) → IsPlainSoFar u width left style last passed (Text w ∷ ps)
-    → (more : List ℕ) × (rest : List Piece) × IsPlainSoFar (u ++ v) width left style last passed (Text (w ++ more) ∷ rest)
+pub so_far-near : {u w : List ℕ} {width left last position passed : ℕ} {style : Rendition} {ps : List Piece} (v : List ℕ) → IsPlainSoFar u width left style last position passed (Text w ∷ ps)
+    → (more : List ℕ) × (rest : List Piece) × IsPlainSoFar (u ++ v) width left style last position passed (Text (w ++ more) ∷ rest)
 so_far-near {u} {w} {ps = ps} v so_far =
     let front = so_far.front in
     let on = run-on u v front w ps (subst (ArePieces u) so_far.all (pieces_are u)) so_far.are_plain in (
@@ -70,7 +70,11 @@ so_far-near {u} {w} {ps = ps} v so_far =
         all = sym (pieces_of-unique (u ++ v) (front ++ Text (w ++ on.0) ∷ on.1) on.2);
         are_plain = so_far.are_plain;
         bytes = so_far.bytes;
+        utf8 = so_far.utf8;
+        taken = so_far.taken;
+        plain = so_far.plain;
         count = so_far.count;
+        sum = so_far.sum;
         style_is = so_far.style_is;
         last_is = so_far.last_is;
       },

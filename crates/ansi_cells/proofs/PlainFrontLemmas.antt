@@ -1,4 +1,4 @@
--- The front of a text of a cell that is printable ASCII and SGRs, up to a run: the walk there, what of the run stays too, and where the text is cut if it goes on past the width.
+-- The front of a text of a cell that is SGRs and characters that are clusters by themselves, up to a run: the walk there, what of the run stays too, and where the text is cut if it goes on past the width.
 use Rattle.std.proofs.Common.{◌≡◌, ◌≢◌, ℕ, Bool, zero, suc, ◌+◌, ◌-◌, ◌<◌, ◌≤◌, inl, inr, true, false, List, [], ◌∷◌, ◌++◌, length, take, drop, slice_index, slice_range, chars, nat_le, if◌then◌else◌, Some, refl, sym, ◌∙◌, ap, ap₂, subst, arith, append_assoc, length-append, take-add, take-append-drop}
 use Rattle.std.specs.List.{list_all}
 use Rattle.std.specs.Str.{IsUtf8, IsAscii, IsCharBoundary}
@@ -36,18 +36,19 @@ use Rattle.std.specs.Prelude.{MatchOption}
 use Rattle.ansi_style.specs.States.{rendition_of}
 use Rattle.ansi_safe.proofs.CellTextLemmas.{HasPieces}
 use Rattle.ansi_cells.specs.declared.plain_cells.PlainFront.{PlainFront}
-use Rattle.ansi_cells.specs.PlainCells.{IsPlainText, IsPlainCell, IsAtRun, IsFront, IsPlainBefore, IsPlainCut}
+use Rattle.ansi_cells.specs.PlainCells.{IsPlainText, IsAtRun, IsWholeFront, IsFront, IsPlainBefore, IsPlainCut}
 use Rattle.ansi_cells.specs.Shown.{has_tail, truncated_width, KeptStays}
 use Rattle.ansi_clusters.specs.Views.{seen, seen_text, seen_len}
 use Rattle.ansi_clusters.specs.Walks.{seen_clusters, IsWalkIn, IsNext, IsPrintable, IsPrintableFront, IsPastAscii, AreClustersIn, IsFittingTo, SeesUpTo, walk_at_run}
 use Rattle.ansi_clusters.proofs.AsciiLemmas.{is_printable, printable-below_7F, All-printable_is_ascii, width-single}
 use Rattle.ansi_clusters.proofs.ColumnLemmas.{fitting-before, sees-up_to}
 use Rattle.ansi_clusters.proofs.FitLemmas.{fitting-columns}
-use Rattle.ansi_cells.proofs.FrontRunLemmas.{IsPlainPart, plain-part, fitting-run, fitting-walk, run-bytes, run-walk}
+use Rattle.ansi_cells.proofs.FrontRunLemmas.{IsPlainPart, plain-part, run-bytes, run-walk-in}
 use Rattle.ansi_cells.proofs.KeptLemmas.{truncated-front}
 use Rattle.ansi_cells.proofs.MissingLemmas.{IsLack, lack-beside}
 use Rattle.ansi_cells.proofs.NearCellLemmas.{part-near, so_far-near}
-use Rattle.ansi_cells.proofs.PlainCellLemmas.{is_plain_piece, IsPlainSoFar, plain-printable, plain-text}
+use Rattle.ansi_cells.proofs.PlainCellLemmas.{is_plain_piece, IsPlainSoFar, plain-text, printable-piece}
+use Rattle.ansi_cells.proofs.PlainTextLemmas.{EndPlain, ends-at, ends-printable, fitting-plain, state-front}
 use Rattle.ansi_clusters.proofs.PrintableLemmas.{slice_range-take, next-ascii, all-index, front-size, printable-at, columns-past, fitting-past, front-fewer, IsPrintable-front}
 use Rattle.ansi_cells.proofs.ShownLemmas.{IsCutTo}
 use Rattle.ansi_clusters.proofs.ViewLemmas.{seen-printable}
@@ -92,7 +93,7 @@ cut-are t (p ∷ front) k ps are all =
 
 one_text-plain : (x : List ℕ) → list_all is_printable x ≡ true → list_all is_plain_piece (one_text x) ≡ true
 one_text-plain [] all = refl
-one_text-plain (b ∷ x) all = and_from _ _ all refl
+one_text-plain (b ∷ x) all = and_from _ _ (printable-piece (b ∷ x) all) refl
 
 one_text-through : (style : Rendition) (x : List ℕ) → style_through style (one_text x) ≡ style
 one_text-through style [] = refl
@@ -100,23 +101,26 @@ one_text-through style (b ∷ x) = refl
 
 -- ---- the walk at the run
 
-walk-at : {t w : List ℕ} {width left passed at last : ℕ} {style : Rendition} (more : List ℕ) (ps : List Piece) (v : Walk) → IsUtf8 t → IsPlainSoFar t width left style last passed (Text (w ++ more) ∷ ps) → IsPlainPart t w passed at → 0 < length w
-    → v ≡ walk_at_run (width - left) passed at → IsAtRun t width left style v
+walk-at : {t w : List ℕ} {width left passed at position last : ℕ} {style : Rendition} (more : List ℕ) (ps : List Piece) (v : Walk) → IsUtf8 t → IsPlainSoFar t width left style last position passed (Text (w ++ more) ∷ ps) → IsPlainPart t w passed at → 0 < length w
+    → v ≡ walk_at_run position passed at → IsAtRun t width left style v
 walk-at {t} {w} {width} {left} {passed} {at} {style = style} more ps v utf8 so_far bytes some is =
     let front = so_far.front in
     let run = w ++ more in
     let x = plain_of front in
     let y = run ++ plain_of ps in
+    let n = so_far.taken in
     let offset : v.offset ≡ passed = ap (λ (u : Walk). u.offset) is in
     let run_end : v.run_end ≡ at = ap (λ (u : Walk). u.run_end) is in
-    let printable = plain-printable front so_far.are_plain in
     let text : plain t ≡ x ++ y = ap plain_of so_far.all ∙ flat_map-append plain_bytes front (Text run ∷ ps) in
-    let place : v.position ≡ length x = omega (arith, ap (λ (u : Walk). u.position) is, so_far.count) in
+    let place : v.position ≡ length x = ap (λ (u : Walk). u.position) is ∙ sym so_far.count in
     let taken = run-bytes bytes offset in
     let inside : (n : ℕ) → v.offset + n ≤ v.run_end → n ≤ length w = λ n within. omega (arith, within, bytes.count, offset, run_end) in
     let part : (n : ℕ) → IsPrintableFront t v n → list_all is_printable (take n w) ≡ true
     = λ n front. ap (list_all is_printable) (sym (slice_range-take t v.offset n ∙ taken n (inside n front.within))) ∙ front.bytes in
-    let walk = run-walk Shown more ps front v utf8 so_far.all printable so_far.bytes bytes some place offset run_end (ap (λ (u : Walk). u.break_state) is) in
+    let state = state-front Shown t utf8 x y n text so_far.utf8 so_far.plain in
+    let walk = run-walk-in Shown more ps front v so_far.all state so_far.bytes bytes some place offset run_end (ap (λ (u : Walk). u.break_state) is) in
+    let fits : EndPlain (seen Shown (chars y)) → IsFittingTo Shown t width v.position left
+    = λ ends. subst (λ n. IsFittingTo Shown t width n left) (sym place) (fitting-plain t utf8 x y n text so_far.utf8 so_far.plain ends so_far.sum) in
     record {
       is_walk = walk;
       front = λ n printed.
@@ -131,9 +135,8 @@ walk-at {t} {w} {width} {left} {passed} {at} {style = style} more ps v utf8 so_f
           (sym (pieces_of-unique _ _ (subst (λ i. ArePieces (take i t) (front ++ one_text (take n w))) i (subst (λ u. ArePieces (take (length (spelled front) + n) t) (front ++ one_text u)) same are))))
           (list_all-append is_plain_piece front (one_text (take n w)) ∙ and_from _ _ so_far.are_plain (one_text-plain (take n w) (part n printed)))
           (so_far.style_is ∙ sym (style_through-append plain_style front (one_text (take n w)) ∙ one_text-through (style_through plain_style front) (take n w)));
-      fitting = λ printed.
-          subst (λ n. IsFittingTo Shown t width n left) (sym place) (fitting-run t utf8 x y text printable w (more ++ plain_of ps) (append_assoc w more (plain_of ps)) some (part 1 printed) so_far.count);
-      ends = λ ends. fitting-walk t utf8 x y text printable v place walk ends so_far.count;
+      fitting = λ printed. fits (ends-printable Shown t utf8 x y n text so_far.utf8 so_far.plain w (more ++ plain_of ps) (append_assoc w more (plain_of ps)) some (part 1 printed));
+      ends = λ ends. fits (ends-at Shown t utf8 x y n text so_far.utf8 so_far.plain v place walk ends);
       rest = λ k test all.
           let i : length (spelled front) ≡ v.offset = omega (arith, offset, so_far.bytes) in
           let are = subst (λ i. ArePieces (take (i + k) t) (front ++ pieces_of (take k (drop i t)))) i (cut-are t front k (Text run ∷ ps) (subst (ArePieces t) so_far.all (pieces_are t)) so_far.are_plain) in
@@ -141,16 +144,16 @@ walk-at {t} {w} {width} {left} {passed} {at} {style = style} more ps v utf8 so_f
     }
 
 -- the run is that of a part at the front of the text, and may go on after it
-pub at-run : {t near : List ℕ} {width left last : ℕ} {style : Rendition} {old new : Scan} {item : Item} (n : ℕ) (v : Walk) → IsUtf8 t → IsCharBoundary t n → near ≡ take n t → IsPlainSoFar near width left style last old.offset (pieces_left old) → GivesItem old item new → old.text ≡ near
-    → item.kind ≡ TextKind → v ≡ walk_at_run (width - left) item.start item.end → IsAtRun t width left style v
-at-run {t} {near} {width} {left} {last} {style} {old} {new} {item} n v utf8 end near_is so_far gives same kind is =
+pub at-run : {t near : List ℕ} {width left position last : ℕ} {style : Rendition} {old new : Scan} {item : Item} (n : ℕ) (v : Walk) → IsUtf8 t → IsCharBoundary t n → near ≡ take n t → IsPlainSoFar near width left style last position old.offset (pieces_left old) → GivesItem old item new → old.text ≡ near
+    → item.kind ≡ TextKind → v ≡ walk_at_run position item.start item.end → IsAtRun t width left style v
+at-run {t} {near} {width} {left} {position} {last} {style} {old} {new} {item} n v utf8 end near_is so_far gives same kind is =
     let w = slice_range near item.start item.end in
     let over : IsOverText near w old.offset new.offset (pieces_left old) (pieces_left new) = over_text gives same refl kind in
     let ends : IsCharBoundary near new.offset = subst (IsCharBoundary near) gives.end (subst (λ u. IsCharBoundary u item.end) same gives.end_boundary) in
     let bytes = part-near utf8 end (subst (λ u. IsPlainPart u w old.offset new.offset) near_is (plain-part over ends)) in
     let whole : near ++ drop n t ≡ t = ap (λ u. u ++ drop n t) near_is ∙ take-append-drop n t in
-    let on = so_far-near (drop n t) (subst (IsPlainSoFar near width left style last old.offset) over.first so_far) in
-    walk-at on.0 on.1 v utf8 (subst (λ u. IsPlainSoFar u width left style last old.offset (Text (w ++ on.0) ∷ on.1)) whole on.2) bytes (omega (arith, over.count, gives.start, gives.end, gives.forward)) (is ∙ ap₂ (walk_at_run (width - left)) gives.start gives.end)
+    let on = so_far-near (drop n t) (subst (IsPlainSoFar near width left style last position old.offset) over.first so_far) in
+    walk-at on.0 on.1 v utf8 (subst (λ u. IsPlainSoFar u width left style last position old.offset (Text (w ++ on.0) ∷ on.1)) whole on.2) bytes (omega (arith, over.count, gives.start, gives.end, gives.forward)) (is ∙ ap₂ (walk_at_run position) gives.start gives.end)
 
 -- a run that goes on past the width
 pub plain-before : {t : List ℕ} {width left : ℕ} {style : Rendition} {v : Walk} → IsAtRun t width left style v → (n : ℕ) × (left < n) × (later : Walk) × IsPastAscii t v n later → IsPlainBefore t width left style v
@@ -265,8 +268,7 @@ plain-over k before within walk position clusters seen = record {
 -- ---- the text before the run
 
 pub front-run : (t : List ℕ) (width : ℕ) (front : PlainFront) {run : Walk} → IsFront t width front → front.run ≡ Some run → IsAtRun t width front.left (rendition_of front.style) run
-front-run t width front is some =
-    subst (λ o. MatchOption o (IsPlainCell t width front.left (rendition_of front.style) front.last) (IsAtRun t width front.left (rendition_of front.style))) some is
+front-run t width front is some = subst (λ o. MatchOption o (IsWholeFront t width front) (IsAtRun t width front.left (rendition_of front.style))) some is
 
 pub front-text : (t : List ℕ) (width : ℕ) (front : PlainFront) {run : Walk} → IsFront t width front → front.run ≡ Some run → IsPlainText (take run.offset t) (rendition_of front.style)
 front-text t width front {run} is some =

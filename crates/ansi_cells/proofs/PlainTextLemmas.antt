@@ -1,10 +1,13 @@
 -- Texts whose runs are characters that are clusters by themselves beside each other: what one pass over the pieces finds, and their columns.
-use Rattle.std.proofs.Common.{◌≡◌, ℕ, ◌+◌, ◌-◌, ◌*◌, ◌<◌, ◌≤◌, true, List, [], ◌∷◌, ◌++◌, length, take, drop, reverse, slice_range, chars, encode_utf8_all, refl, sym, ◌∙◌, ap, ap₂, subst, arith, append-nil, append_assoc, length-append, take-append-drop}
+use Rattle.std.proofs.Common.{◌≡◌, ℕ, ◌+◌, ◌-◌, ◌*◌, ◌<◌, ◌≤◌, true, List, [], ◌∷◌, ◌++◌, length, take, drop, reverse, slice_range, chars, encode_utf8, encode_utf8_all, if◌then◌else◌, refl, sym, ◌∙◌, ap, ap₂, subst, arith, append-nil, append_assoc, length-append, take-append-drop}
+use Rattle.std.specs.List.{list_all, prefix_len}
 use Rattle.std.specs.Str.{IsUtf8, IsCharBoundary}
+use Rattle.std.proofs.lemmas.Bool.{and_from, and_parts}
 use Rattle.std.proofs.lemmas.Grind.{flat_map-append}
 use Rattle.std.proofs.lemmas.List.{drop_at, drop-drop, take_all, take_at, take-take, length-drop, length-take-le}
 use Rattle.std.proofs.lemmas.List.Sums.{sum_by-append, sum_by-cons}
-use Rattle.std.proofs.lemmas.Str.{chars-append, chars-nil, IsCharBoundary-from_rest, IsCharBoundary-from_take, encodes-chars, IsUtf8-nil, IsUtf8-append, IsUtf8-drop, IsUtf8-take}
+use Rattle.std.proofs.lemmas.Str.{chars-append, chars-nil, IsCharBoundary-from_rest, IsCharBoundary-from_take, encodes-chars, IsUtf8-nil, IsUtf8-append, IsUtf8-drop, IsUtf8-from_ascii, IsUtf8-take}
+use Rattle.std.proofs.lemmas.Str.Ascii.{IsAscii-from_all}
 use Rattle.unicode_segmentation.specs.Grapheme.{is_grapheme_break, break_by_pair}
 use Rattle.ucd_breaks.specs.GraphemeClusterBreak.{grapheme_cluster_break}
 use Rattle.ansi_items.specs.declared.ansitok.Item.{Item}
@@ -21,17 +24,19 @@ use Rattle.ansi_search.proofs.OffsetLemmas.{IsOverText, IsOverMark, over_text}
 use Rattle.ansi_split.proofs.AfterLemmas.{drop-take}
 use Rattle.ansi_split.proofs.RestLemmas.{boundary-drop}
 use Rattle.ansi_clusters.specs.declared.views.View.{View}
+use Rattle.ansi_clusters.specs.declared.views.View.TheVariants.{Shown}
 use Rattle.ansi_clusters.specs.declared.walks.Walk.{Walk}
 use Rattle.ansi_clusters.specs.BreakStates.{break_state_of}
-use Rattle.ansi_clusters.specs.Columns.{cluster_width, columns_of, columns as columns_in}
+use Rattle.ansi_clusters.specs.Columns.{bytes_of, cluster_width, columns_of, columns as columns_in}
 use Rattle.ansi_clusters.specs.Letters.{IsPlainSingle, ArePlain, IsPlainFront}
 use Rattle.ansi_clusters.specs.Views.{seen, seen_text}
-use Rattle.ansi_clusters.specs.Walks.{clusters_after, seen_before, seen_after, seen_clusters, IsWalkIn, IsCounted, IsCountedTo, EndsAscii, walk_at_run}
-use Rattle.ansi_clusters.proofs.AsciiLemmas.{is_printable, break_state-printable}
+use Rattle.ansi_clusters.specs.Walks.{clusters_after, seen_before, seen_after, seen_clusters, IsWalkIn, IsCounted, IsCountedTo, IsFittingTo, EndsAscii, walk_at_run}
+use Rattle.ansi_clusters.proofs.AsciiLemmas.{is_printable, All-printable_is_ascii, break_state-printable}
 use Rattle.ansi_clusters.proofs.BreakLemmas.{is_grapheme_break-decided}
 use Rattle.ansi_clusters.proofs.ClusterLawLemmas.{reversed_before, breaks-last, cluster-alone}
-use Rattle.ansi_clusters.proofs.ColumnLemmas.{counted-begin, counted-end}
-use Rattle.ansi_clusters.proofs.LetterLemmas.{plain-append, plain-bound, plain-state}
+use Rattle.ansi_clusters.proofs.ClusterLemmas.{clusters-none}
+use Rattle.ansi_clusters.proofs.ColumnLemmas.{bytes_of-append, counted-begin, counted-end}
+use Rattle.ansi_clusters.proofs.LetterLemmas.{front-printable, plain-append, plain-bound, plain-state}
 use Rattle.ansi_clusters.proofs.PrintableLemmas.{singles}
 use Rattle.ansi_clusters.proofs.SingleLemmas.{breaks-single}
 use Rattle.ansi_clusters.proofs.ViewLemmas.{seen-nil, seen-one, seen-append, seen-chars, seen-printing}
@@ -41,7 +46,7 @@ use Rattle.ansi_cells.proofs.MissingLemmas.{reversed-is}
 -- ---- the clusters before a run
 
 -- a cluster that ends in such a character ends before these characters
-abbrev EndPlain : List ℕ → Type 0
+abbrev pub EndPlain : List ℕ → Type 0
 EndPlain cs = (before : List ℕ) (c width : ℕ) → IsPlainSingle c width → is_grapheme_break true (c ∷ before) cs ≡ true
 
 clusters-plain : (before cs ds : List ℕ) (n : ℕ) → ArePlain cs n → EndPlain ds → clusters_after before (cs ++ ds) ≡ singles cs ++ clusters_after (reversed_before before cs) ds
@@ -49,6 +54,11 @@ clusters-plain before [] ds n all ends = refl
 clusters-plain before (c ∷ []) ds n all ends = cluster-alone before c ds (ends before c all.0 all.2)
 clusters-plain before (c ∷ e ∷ cs) ds n all ends =
     cluster-alone before c (e ∷ cs ++ ds) (breaks-single before c e (cs ++ ds) all.2.shown.single all.3.2.shown.single) ∙ ap (λ ks. (c ∷ []) ∷ ks) (clusters-plain (c ∷ before) (e ∷ cs) ds all.1 all.3 ends)
+
+-- those of a whole text
+pub clusters-singles : (cs : List ℕ) (n : ℕ) → ArePlain cs n → clusters_after [] cs ≡ singles cs
+clusters-singles cs n all =
+    ap (clusters_after []) (sym (append-nil cs)) ∙ clusters-plain [] cs [] n all (λ before c width is. breaks-last c before) ∙ ap (λ ks. singles cs ++ ks) (clusters-none (reversed_before [] cs)) ∙ append-nil (singles cs)
 
 columns-plain : (cs : List ℕ) (n : ℕ) → ArePlain cs n → columns_of (singles cs) ≡ n
 columns-plain [] n none = sym none
@@ -92,7 +102,7 @@ module _ (view : View) (t : List ℕ) (utf8 : IsUtf8 t) (x y : List ℕ) (n : �
   before-is : seen_before view t (length x) ≡ reversed_before [] (chars x)
   before-is = ap reverse taken ∙ sym (append-nil (reverse (chars x))) ∙ sym (reversed-is [] (chars x))
 
-  state-front : break_state_of [] ≡ break_state_of (seen_before view t (length x))
+  pub state-front : break_state_of [] ≡ break_state_of (seen_before view t (length x))
   state-front = state-plain [] (chars x) n refl all ∙ ap break_state_of (sym before-is)
 
   after-is : seen_after view t (length x) ≡ seen view (chars y)
@@ -114,7 +124,7 @@ module _ (view : View) (t : List ℕ) (utf8 : IsUtf8 t) (x y : List ℕ) (n : �
   }
 
   -- a cluster ends at the walk after them
-  ends-at : (v : Walk) → v.position ≡ length x → IsWalkIn view t v → EndsAscii t v → EndPlain (seen view (chars y))
+  pub ends-at : (v : Walk) → v.position ≡ length x → IsWalkIn view t v → EndsAscii t v → EndPlain (seen view (chars y))
   ends-at v place is ends = ends-plain (seen view (chars y)) (λ before b first. ap (is_grapheme_break true (b ∷ before)) (sym (ap (seen_after view t) place ∙ after-is)) ∙ ends view is before b first)
 
   -- and before bytes of such characters
@@ -128,6 +138,30 @@ module _ (view : View) (t : List ℕ) (utf8 : IsUtf8 t) (x y : List ℕ) (n : �
       = ap (λ u. seen view (chars u)) bytes ∙ ap (seen view) (chars-append begin more begin_utf8) ∙ seen-append view (chars begin) (chars more) ∙ ap (λ cs. cs ++ seen view (chars more)) (seen-plain view (chars begin) m front.plain) in
       let filled : 0 < length begin = omega (arith, some, length-take-le len w front.boundary.0) in
       subst EndPlain (sym seen_is) (ends-before (chars begin) (seen view (chars more)) m (some-chars begin begin_utf8 filled) front.plain)
+
+  -- and before a byte of printable ASCII
+  pub ends-printable : (w rest : List ℕ) → y ≡ w ++ rest → 0 < length w → list_all is_printable (take 1 w) ≡ true → EndPlain (seen view (chars y))
+  ends-printable [] rest is some printable = absurd (omega (arith, some))
+  ends-printable (b ∷ w) rest is some printable =
+      let first : is_printable b ≡ true = (and_parts (is_printable b) true printable).0 in
+      let one_utf8 = IsUtf8-from_ascii (b ∷ []) (IsAscii-from_all (b ∷ []) (All-printable_is_ascii (b ∷ []) (and_from _ _ first refl))) in
+      let count : 1 ≡ prefix_len is_printable (b ∷ []) = ap (λ p. if p then 1 + 0 else 0) (sym first) in
+      ends-run (b ∷ []) (w ++ rest) 1 1 one_utf8 is (omega arith) (front-printable (b ∷ []) one_utf8 1 count)
+
+-- the bytes of these characters, each a cluster
+bytes-each : (cs : List ℕ) → bytes_of (singles cs) ≡ length (encode_utf8_all cs)
+bytes-each [] = refl
+bytes-each (c ∷ cs) =
+    omega (arith, bytes_of-append ((c ∷ []) ∷ []) (singles cs), ap length (append-nil (encode_utf8_all (c ∷ []))), ap length (append-nil (encode_utf8 c)), length-append (encode_utf8 c) (encode_utf8_all cs), bytes-each cs)
+
+-- they fit
+pub fitting-plain : (t : List ℕ) → IsUtf8 t → (x y : List ℕ) (n : ℕ) → plain t ≡ x ++ y → IsUtf8 x → ArePlain (chars x) n → {width left : ℕ} → EndPlain (seen Shown (chars y)) → n + left ≡ width → IsFittingTo Shown t width (length x) left
+fitting-plain t utf8 x y n text x_utf8 all ends sum = record {
+  front = singles (chars x);
+  all = clusters-front Shown t utf8 x y n text x_utf8 all ends;
+  boundary = ap (λ cs. length (encode_utf8_all cs)) (taken Shown t utf8 x y n text x_utf8 all) ∙ sym (bytes-each (chars x));
+  columns = omega (arith, sum, columns-plain (chars x) n all);
+}
 
 -- a part of a text is a text
 pub slice-utf8 : (t : List ℕ) (start end : ℕ) → IsUtf8 t → start ≤ end → IsCharBoundary t start → IsCharBoundary t end → IsUtf8 (slice_range t start end)

@@ -1,6 +1,7 @@
--- What one pass over a text of a cell, or of a paragraph of one line, finds, if that is printable ASCII and SGRs. No public contract cites it.
-use Rattle.std.specs.Prelude.{◌≡◌, ℕ, ◌+◌, ◌-◌, ◌<◌, Bool, List, [], length, take, drop, slice_index, IsTrue, MatchOption}
+-- What one pass over a text of a cell, or of a paragraph of one line, finds, if that is SGRs and characters that are clusters by themselves beside each other. No public contract cites it.
+use Rattle.std.specs.Prelude.{◌≡◌, ℕ, ◌+◌, ◌-◌, ◌<◌, Bool, List, [], length, take, drop, chars, slice_index, IsTrue, MatchOption}
 use Rattle.std.specs.List.{list_all}
+use Rattle.std.specs.Str.{IsUtf8}
 use Rattle.ansi_items.specs.Pieces.{Piece, pieces_of}
 use Rattle.ansi_items.specs.Plain.{plain, marks}
 use Rattle.ansi_style.specs.declared.state.rendition.Rendition.{Rendition}
@@ -8,12 +9,13 @@ use Rattle.ansi_style.specs.States.{rendition_of}
 use Rattle.ansi_style.specs.Styled.{style_after}
 use Rattle.ansi_safe.specs.Cells.{cell}
 use Rattle.ansi_safe.specs.Links.{link_of}
-use Rattle.ansi_safe.specs.Safe.{is_printable_byte, is_safe}
+use Rattle.ansi_safe.specs.Safe.{is_safe}
 use Rattle.ansi_safe.specs.declared.policy.Links.{Links}
 use Rattle.ansi_clusters.specs.declared.views.View.TheVariants.{Shown}
 use Rattle.ansi_cells.specs.declared.plain_cells.PlainFront.{PlainFront}
 use Rattle.ansi_clusters.specs.declared.walks.Walk.{Walk}
 use Rattle.ansi_clusters.specs.Columns.{columns}
+use Rattle.ansi_clusters.specs.Letters.{ArePlain}
 use Rattle.ansi_clusters.specs.Views.{seen_len, seen_text}
 use Rattle.ansi_clusters.specs.Walks.{IsWalkIn, IsPrintableFront, IsPastAscii, IsFittingTo, SeesUpTo, EndsAscii}
 
@@ -28,11 +30,12 @@ pub record IsPlainText (t : List ℕ) (style : Rendition) : Type 0 where
 abbrev pub last_byte : List ℕ → ℕ
 last_byte x = slice_index x (length x - 1)
 
--- Such a text fits, and leaves this many columns of the width. Its plain text is printable ASCII, and has this last byte.
+-- Such a text fits, and leaves this many columns of the width. Each of its characters is a cluster by itself, and the last byte of its plain text is this one.
 pub record IsPlainCell (t : List ℕ) (width left : ℕ) (style : Rendition) (last : ℕ) : Type 0 where
   pub text : IsPlainText t style
   pub sum : columns (plain t) + left ≡ width
-  pub printable : IsTrue (list_all is_printable_byte (plain t))
+  pub utf8 : IsUtf8 (plain t)
+  pub singles : ArePlain (chars (plain t)) (columns (plain t))
   pub last_is : last ≡ last_byte (plain t)
 
 -- The text before a walk is such a text, also with printable ASCII of the walk's run. If the run begins with printable ASCII, or a cluster that ends in that ends there, the text before it fits and leaves this many columns. The pieces of the next k bytes are pieces of the text up to there.
@@ -43,9 +46,14 @@ pub record IsAtRun (t : List ℕ) (width left : ℕ) (style : Rendition) (walk :
   pub ends : EndsAscii t walk → IsFittingTo Shown t width walk.position left
   pub rest : (k : ℕ) (test : Piece → Bool) → IsTrue (list_all test (pieces_of (take (walk.offset + k) t))) → IsTrue (list_all test (pieces_of (take k (drop walk.offset t))))
 
+-- The front is such a text, and all of it.
+pub record IsWholeFront (t : List ℕ) (width : ℕ) (front : PlainFront) : Type 0 where
+  pub is_cell : IsPlainCell t width front.left (rendition_of front.style) front.last
+  pub len : front.len ≡ length (plain t)
+
 -- What a pass over the front of a text finds.
 abbrev pub IsFront : List ℕ → ℕ → PlainFront → Type 0
-IsFront t width front = MatchOption front.run (IsPlainCell t width front.left (rendition_of front.style) front.last) (IsAtRun t width front.left (rendition_of front.style))
+IsFront t width front = MatchOption front.run (IsWholeFront t width front) (IsAtRun t width front.left (rendition_of front.style))
 
 -- The text before a walk is such a text and fits, and so it is with printable ASCII of the walk's run. More of that follows than the columns that it leaves, so all of the text doesn't fit.
 pub record IsPlainBefore (t : List ℕ) (width left : ℕ) (style : Rendition) (walk : Walk) : Type 0 where

@@ -1,30 +1,38 @@
-//! The texts of cells that are printable ASCII and select graphic renditions alone. They stay as
-//! they are, and one pass tells their columns and the style at their end, or where they are cut and
-//! the style there. A paragraph that fits into one line is such a text too.
-ghost use Rattle.std.specs.Prelude.{◌≡◌, ◌-◌, ◌<◌, ◌≤◌, ℕ, min, IfSome, MatchOption, IsTrue, length, slice_range};
+//! The texts of cells that are select graphic renditions and characters that are clusters by
+//! themselves beside each other, as printable ASCII and most letters are. They stay as they are, and one
+//! pass tells their columns and the style at their end, or where they are cut and the style there. A
+//! paragraph that fits into one line is such a text too.
+ghost use Rattle.std.specs.Prelude.{◌≡◌, ◌+◌, ◌-◌, ◌<◌, ◌≤◌, ℕ, min, IfSome, MatchOption, IsTrue, length, slice_range};
 ghost use Rattle.std.specs.List.{list_all, prefix_len};
+ghost use Rattle.std.specs.Str.{IsCharBoundary};
 ghost use Rattle.ansi_style.specs.Rendition.{plain_style};
 ghost use Rattle.ansi_style.specs.States.{rendition_of};
 ghost use Rattle.ansi_safe.specs.Safe.{is_printable_byte};
 ghost use Rattle.ansi_clusters.specs.declared.walks.Walk.{Walk};
 ghost use Rattle.ansi_cells.specs.PlainCells.{IsFront, IsPlainCell, IsPlainBefore, IsPlainCut};
 ghost use Rattle.ansi_clusters.specs.declared.views.View.{View};
+ghost use Rattle.ansi_clusters.specs.Letters.{IsPlainFront};
 ghost use Rattle.ansi_clusters.specs.Walks.{IsAnyWalk, IsPastAscii, IsFitted};
 
 use ansi_clusters::fits::Fitted;
+use ansi_clusters::letters;
 use ansi_clusters::walks::Walk;
+use ansi_items::ESC;
 use ansi_items::ansitok::{Kind, Scanner};
 use ansi_safe::printable::printable_len;
 use ansi_safe::utf8::is_ascii;
 use ansi_style::state::Style;
 use ansi_style::styles;
+use memchr::memchr;
 
-/// The front of a text of a cell, up to the first run that doesn't fit, or isn't printable ASCII. It
+/// The front of a text of a cell, up to the first run that doesn't fit, or has another character. It
 /// stays as it is.
 #[derive(Clone, Copy)]
 pub struct PlainFront {
     /// The columns of the width that the front leaves.
     pub left: usize,
+    /// The number of its plain bytes.
+    pub len: usize,
     /// The style at its end. No link is open there.
     pub style: Style,
     /// The last byte of its plain text, or 0 if that is empty.
@@ -40,15 +48,10 @@ pub(crate) const LONGEST: usize = 512;
 /// How many bytes before the end of that part a run has to end. A sequence after it could be cut.
 const LAST: usize = 64;
 
-/// Whether a text is ASCII, and not too long to be looked at.
-fn is_short_ascii(text: &str) -> bool {
-    text.len() <= LONGEST && is_ascii(text.as_bytes())
-}
-
-/// The front of a text of a cell, if that is printable ASCII and select graphic renditions alone.
+/// The front of a text of a cell, if that is the whole text, or goes on past the width in printable ASCII.
 /// `None` says nothing.
 ///
-/// If a run doesn't fit, only one byte more is tested than there are columns left.
+/// If such a run doesn't fit, only one byte more is tested than there are columns left.
 pub(crate) fn plain_front(text: &str, width: usize) -> Option<PlainFront>
     ensures { IfSome result (λ f. MatchOption f.run
         (IsPlainCell text.now width f.left (rendition_of f.style) f.last)
@@ -65,14 +68,14 @@ pub(crate) fn plain_front(text: &str, width: usize) -> Option<PlainFront>
     }
 }
 
-/// The front of a text of a cell, if that is the whole text. `None` says nothing. A long text isn't looked
-/// at.
+/// The front of a text of a cell, if that is the whole text. `None` says nothing. A text that is long, or
+/// isn't ASCII, isn't looked at.
 #[inline(always)]
 pub fn plain_cell(text: &str, width: usize) -> Option<PlainFront>
     ensures { IfSome result (λ f.
         IsPlainCell text.now width f.left (rendition_of f.style) f.last) }
 {
-    if !is_short_ascii(text) {
+    if LONGEST < text.len() || !is_ascii(text.as_bytes()) {
         return None;
     }
     if let Some(front) = bare_front(text, width) {
@@ -85,20 +88,63 @@ pub fn plain_cell(text: &str, width: usize) -> Option<PlainFront>
     }
 }
 
-/// The same as `plain_runs`, of a short text of ASCII alone. `None` says nothing.
+/// The same as `plain_runs`, of a text that may be one line of this width. `None` says nothing.
 #[inline(always)]
-pub fn ascii_runs(text: &str, width: usize) -> Option<PlainFront>
+pub fn line_runs(text: &str, width: usize) -> Option<PlainFront>
     ensures { IfSome result (IsFront text.now width) }
 {
-    if begins_otherwise(text) || !is_short_ascii(text) {
+    if LONGEST < text.len() || begins_otherwise(text) {
+        return None;
+    }
+    if !is_ascii(text.as_bytes()) && !may_be_line(text, width) {
         return None;
     }
     plain_runs(text, width)
 }
 
-/// The front of a text of a cell, up to the first run that doesn't fit or isn't printable ASCII.
-/// `None` says nothing. Of a run that has more bytes than columns are left, nothing is tested, and of a long
-/// text only the front is looked at.
+/// Whether a text that isn't ASCII may be one line, so that its front is looked for. It isn't if it is much
+/// longer than the line, ends with a blank, has a link or another control string first, or if a rule on
+/// clusters may join its first other character to another one.
+fn may_be_line(text: &str, width: usize) -> bool {
+    let bytes = text.as_bytes();
+    if width.saturating_mul(2) < bytes.len() || matches!(bytes, [.., b' ']) {
+        return false;
+    }
+    if let Some(at) = memchr(ESC, bytes)
+        && !matches!(bytes.get(at + 1), Some(b'['))
+    {
+        return false;
+    }
+    !may_join(&bytes[ascii_len(bytes)..])
+}
+
+/// How many bytes of ASCII are at the front, in blocks of 8, and then one by one.
+#[inline(always)]
+fn ascii_len(bytes: &[u8]) -> usize
+    ensures { result ≤ length bytes.now }
+{
+    let mut at = 0;
+    while 8 <= bytes.len() - at && is_ascii(&bytes[at..at + 8]) {
+        at += 8;
+    }
+    while at < bytes.len() && bytes[at] < 0x80 {
+        at += 1;
+    }
+    at
+}
+
+/// Whether bytes begin with a character that a rule on clusters may join to another one: an accent, a letter of
+/// a script that has marks, a Hangul syllable, a symbol or an emoji. `false` says nothing.
+#[inline(always)]
+fn may_join(bytes: &[u8]) -> bool {
+    matches!(
+        bytes,
+        [0xCC | 0xCD | 0xE0 | 0xE1 | 0xEA..=0xED | 0xF0..=0xFF, ..] | [0xE2, 0x98..=0xBF, ..]
+    )
+}
+
+/// The front of a text of a cell, up to the first run that doesn't fit or has a character that a rule on
+/// clusters may join to another one. `None` says nothing. Of a long text only the front is looked at.
 pub(crate) fn plain_runs(text: &str, width: usize) -> Option<PlainFront>
     ensures { IfSome result (IsFront text.now width) }
 {
@@ -114,6 +160,11 @@ pub(crate) fn plain_runs(text: &str, width: usize) -> Option<PlainFront>
     let mut style = styles::plain_style();
     let mut left = width;
     let mut last = 0;
+    let mut others = Others {
+        len: 0,
+        left: width,
+        spare: 0,
+    };
     for item in Scanner::new(near) {
         let piece = &near[item.start..item.end];
         if item.kind == Kind::Sgr {
@@ -123,27 +174,102 @@ pub(crate) fn plain_runs(text: &str, width: usize) -> Option<PlainFront>
         if item.kind != Kind::Text {
             return None;
         }
-        if left < piece.len() || most < item.end || !is_printable(near, item.start, item.end) {
-            let run = Walk::at_run(&item, width - left);
+        if piece.len() <= left && item.end <= most && is_printable(near, item.start, item.end) {
+            left -= piece.len();
+            last = piece.as_bytes()[piece.len() - 1];
+            continue;
+        }
+        let all = left + others.spare;
+        let len = others.len + (others.left - all);
+        // Of a long text, only printable ASCII is passed.
+        let room = if near.len() < text.len() { 0 } else { all };
+        let Some((columns, spare)) = columns_of_others(near, item.start, item.end, room) else {
+            let run = Walk::at_run(&item, len);
             return Some(PlainFront {
-                left,
+                left: all,
+                len,
                 style,
                 last,
                 run: Some(run),
             });
-        }
-        left -= piece.len();
+        };
         last = piece.as_bytes()[piece.len() - 1];
+        others = Others {
+            len: len + piece.len(),
+            left: all - columns,
+            spare,
+        };
+        left = all - columns - spare;
     }
     if near.len() < text.len() {
         return None;
     }
+    let all = left + others.spare;
     Some(PlainFront {
-        left,
+        left: all,
+        len: others.len + (others.left - all),
         style,
         last,
         run: None,
     })
+}
+
+/// The front of a text up to its last run so far that isn't all ASCII.
+#[derive(Clone, Copy)]
+struct Others {
+    /// The number of its plain bytes.
+    len: usize,
+    /// The columns that it leaves.
+    left: usize,
+    /// How many of them the runs after it don't take, so that they are left for a tail.
+    spare: usize,
+}
+
+/// The columns of the run from `start` up to `end`, if its characters are clusters by themselves beside each
+/// other, and fit into `most` columns, and how many columns to leave for a tail: one if more follows. `None` says
+/// nothing: a run that seems too wide or to have other characters isn't looked at.
+#[inline(never)]
+fn columns_of_others(text: &str, start: usize, end: usize, most: usize) -> Option<(usize, usize)>
+    requires some { start < end }
+    requires start { IsCharBoundary text.now start }
+    requires end { IsCharBoundary text.now end }
+    ensures run { IfSome result (λ (columns, spare).
+        IsPlainFront (slice_range text.now start end) (end - start) columns) }
+    ensures most { IfSome result (λ (columns, spare). columns + spare ≤ most) }
+{
+    let spare = if end < text.len() { 1 } else { 0 };
+    let room = most.saturating_sub(spare);
+    let run = &text.as_bytes()[start..end];
+    // Letters have at most two bytes for a column, and most runs of Japanese three for two.
+    let bytes = match run[0] {
+        0..=0x7F => room,
+        0xC0..=0xDF => room.saturating_mul(2),
+        _ => room.saturating_add(room / 2),
+    };
+    if bytes < run.len() || may_join(run) {
+        return None;
+    }
+    let (len, columns) = plain_part(text, start, end);
+    if len < end - start || room < columns || most < spare {
+        return None;
+    }
+    Some((columns, spare))
+}
+
+/// How many bytes of such characters a run begins with, and their columns.
+#[inline(always)]
+pub(crate) fn plain_part(text: &str, start: usize, end: usize) -> (usize, usize)
+    requires ordered { start ≤ end }
+    requires start { IsCharBoundary text.now start }
+    requires end { IsCharBoundary text.now end }
+    ensures { IsPlainFront (slice_range text.now start end) result.0 result.1 }
+{
+    let ascii = printable_near(text, start, end).min(end - start);
+    if ascii == end - start || text.as_bytes()[start + ascii] < 0x80 {
+        return (ascii, ascii);
+    }
+    let (len, columns) = letters::plain_front(&text[start + ascii..end]);
+    (ascii + len, ascii + columns)
 }
 
 /// The front of a text of a cell, if that is a text of printable ASCII alone that fits. `None` says
@@ -160,17 +286,18 @@ pub(crate) fn bare_front(text: &str, width: usize) -> Option<PlainFront>
     }
     Some(PlainFront {
         left: width - len,
+        len,
         style: styles::plain_style(),
         last: text.as_bytes()[len - 1],
         run: None,
     })
 }
 
-/// Whether a text begins with a character that isn't ASCII, or with an ESC that begins no control
-/// sequence, as a link or a title does.
+/// Whether a text begins with an ESC that begins no control sequence, as a link or a title does, or with a
+/// character that a rule on clusters may join to another one.
 #[inline(always)]
 fn begins_otherwise(text: &str) -> bool {
-    matches!(text.as_bytes(), [0x80..=0xFF, ..] | [0x1B, 0..=0x5A | 0x5C..=0xFF, ..])
+    matches!(text.as_bytes(), [0x1B, 0..=0x5A | 0x5C..=0xFF, ..]) || may_join(text.as_bytes())
 }
 
 /// The longest known prefix of a text that fits, after what `plain_runs` returned for `width`.

@@ -375,13 +375,14 @@ fn truncation<'a>(text: &str, width: usize, tail: &'a str, padded: bool, from: F
             missing: Some(whole.left),
         };
     }
-    let from = if columns <= from.left {
-        from
-    } else {
-        Fitted::start(text, width)
-    };
     // Up to where the text has to be cut for the tail, and on to see whether it has to.
-    let (front, fits_beside) = longest(text, width - columns, from.narrowed(columns));
+    let room = width - columns;
+    let from = if columns <= from.left {
+        from.narrowed(columns)
+    } else {
+        fitted(text, room, &plain_runs(text, room))
+    };
+    let (front, fits_beside) = longest(text, room, from);
     let on = Fitted {
         walk: front.walk,
         left: front.left + columns,

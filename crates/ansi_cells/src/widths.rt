@@ -1,14 +1,11 @@
 //! The width of a text.
-ghost use Rattle.std.specs.Prelude.{◌≡◌, ◌≤◌, slice_range, MatchOption};
-ghost use Rattle.std.specs.Str.{IsCharBoundary};
+ghost use Rattle.std.specs.Prelude.{◌≡◌, MatchOption};
 ghost use Rattle.ansi_clusters.specs.declared.views.View.{View};
 ghost use Rattle.ansi_clusters.specs.Columns.{columns};
-ghost use Rattle.ansi_clusters.specs.Letters.{IsPlainFront};
 ghost use Rattle.ansi_clusters.specs.Views.{seen_text};
 ghost use Rattle.ansi_clusters.specs.Walks.{IsWalkIn, IsCounted, IsCountedTo};
 
-use crate::plain_cells::printable_near;
-use ansi_clusters::letters::plain_front;
+use crate::plain_cells::plain_part;
 use ansi_clusters::views::View;
 use ansi_clusters::walks::Walk;
 use ansi_items::ansitok::{Kind, Scanner};
@@ -52,21 +49,6 @@ fn plain_runs(text: &str) -> (usize, Option<Walk>)
         columns += more;
     }
     (columns, None)
-}
-
-/// How many bytes of such characters a run begins with, and their columns.
-fn plain_part(text: &str, start: usize, end: usize) -> (usize, usize)
-    requires ordered { start ≤ end }
-    requires start { IsCharBoundary text.now start }
-    requires end { IsCharBoundary text.now end }
-    ensures { IsPlainFront (slice_range text.now start end) result.0 result.1 }
-{
-    let ascii = printable_near(text, start, end).min(end - start);
-    if ascii == end - start || text.as_bytes()[start + ascii] < 0x80 {
-        return (ascii, ascii);
-    }
-    let (len, columns) = plain_front(&text[start + ascii..end]);
-    (ascii + len, ascii + columns)
 }
 
 /// The columns of what is seen of a text, cluster by cluster, after a walk before which there are

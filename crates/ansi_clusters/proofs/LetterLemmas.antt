@@ -1,5 +1,5 @@
 -- Letters of two bytes and printable ASCII: each is a cluster of one column beside another.
-use Rattle.std.proofs.Common.{◌≡◌, ℕ, Bool, suc, ◌+◌, ◌<◌, ◌≤◌, true, false, ◌&&◌, ◌||◌, get_or, List, [], ◌∷◌, ◌++◌, length, take, drop, chars, cond, slice_range, encode_utf8, encode_utf8_all, refl, sym, ◌∙◌, ap, ap₂, subst, arith, append-nil, append_assoc, length-append, take-append-drop, ◌-◌, ◌≢◌, ◌*◌, take-add}
+use Rattle.std.proofs.Common.{◌≡◌, ℕ, Bool, suc, ◌+◌, ◌<◌, ◌≤◌, true, false, ◌&&◌, ◌||◌, get_or, slice_index, List, [], ◌∷◌, ◌++◌, length, take, drop, chars, cond, slice_range, encode_utf8, encode_utf8_all, refl, sym, ◌∙◌, ap, ap₂, subst, arith, append-nil, append_assoc, length-append, take-append-drop, ◌-◌, ◌≢◌, ◌*◌, take-add}
 use Rattle.std.specs.List.{list_all, count_by, prefix_len}
 use Rattle.std.specs.Str.{IsUtf8, IsCharBoundary, byte}
 use Rattle.std.proofs.lemmas.Bool.{agree_below, agree_below_at, and_parts}
@@ -12,12 +12,12 @@ use Rattle.ansi_clusters.specs.declared.break_state.BreakState.{BreakState}
 use Rattle.ansi_clusters.specs.declared.walks.Walk.{Walk}
 use Rattle.ansi_clusters.specs.declared.views.View.{View}
 use Rattle.ansi_clusters.specs.BreakStates.{break_state_of}
-use Rattle.ansi_clusters.specs.Letters.{is_letter, is_letter_byte, is_first_byte, AreLettersBefore, IsPlainSingle, ArePlain, IsPlainFront, ArePlainBefore, AreWide, AreWideBefore}
+use Rattle.ansi_clusters.specs.Letters.{is_letter, is_wide, are_wide_bytes, is_letter_byte, is_first_byte, AreLettersBefore, IsPlainSingle, ArePlain, IsPlainFront, ArePlainBefore, AreWide, AreWideBefore, IsWideFront}
 use Rattle.ansi_clusters.specs.Walks.{IsWalkIn, IsNext, IsPastClusters}
 use Rattle.ansi_clusters.specs.Words.{ArePastLetters}
 use Rattle.unicode_segmentation.specs.Grapheme.{ends_in_linker, ends_in_pictograph, ends_in_half_flag}
 use Rattle.ucd_breaks.specs.declared.GraphemeClusterBreak.TheVariants.{Other}
-use Rattle.ansi_clusters.proofs.SingleLemmas.{IsShownSingle-letter, letter-elsewhere, single-elsewhere, break_state-single}
+use Rattle.ansi_clusters.proofs.SingleLemmas.{IsShownSingle-letter, IsShownSingle-wide, letter-elsewhere, wide-elsewhere, single-elsewhere, break_state-single}
 use Rattle.ansi_clusters.proofs.SingleWalkLemmas.{walk_past, past-single, clusters-single, letters-none, letters-single}
 use Rattle.ansi_clusters.proofs.WalkLemmas.{rest_at}
 use Rattle.std.proofs.lemmas.Str.Ascii.{IsAscii-from_all}
@@ -49,6 +49,26 @@ letters-all (c ∷ cs) all =
 
 letters-chars : (w : List ℕ) → IsUtf8 w → list_all is_letter_byte w ≡ true → list_all is_letter (chars w) ≡ true
 letters-chars w utf8 all = letters-all (chars w) (ap (list_all is_letter_byte) (encodes-chars w utf8) ∙ all)
+
+-- the bytes of a kana or an ideograph
+wide-code : (c : ℕ) (rest : List ℕ) → are_wide_bytes (slice_index (encode_utf8 c ++ rest) 0) (slice_index (encode_utf8 c ++ rest) 1) (slice_index (encode_utf8 c ++ rest) 2) ≡ true → (is_wide c ≡ true) × (length (encode_utf8 c) ≡ 3)
+unfolding lib.Utf8.encode
+wide-code c rest is = grind (arith, nat_tests)
+
+wide-single : (c : ℕ) → is_wide c ≡ true → IsPlainSingle c 2
+wide-single c is = record { shown = IsShownSingle-wide c is; elsewhere = wide-elsewhere c is }
+
+-- the text begins with one
+pub wide-first : (t : List ℕ) → IsUtf8 t → 3 ≤ length t → are_wide_bytes (slice_index t 0) (slice_index t 1) (slice_index t 2) ≡ true → (c : ℕ) × (rest : List ℕ) × (t ≡ encode_utf8 c ++ rest) × (is_wide c ≡ true) × (length (encode_utf8 c) ≡ 3)
+wide-first t utf8 some wide = by (chars t) (encodes-chars t utf8)
+  where
+    by : (cs : List ℕ) → encode_utf8_all cs ≡ t → (c : ℕ) × (rest : List ℕ) × (t ≡ encode_utf8 c ++ rest) × (is_wide c ≡ true) × (length (encode_utf8 c) ≡ 3)
+    by [] none = absurd (omega (arith, some, ap length none))
+    by (c ∷ cs) bytes =
+        let rest = encode_utf8_all cs in
+        let same : are_wide_bytes (slice_index (encode_utf8 c ++ rest) 0) (slice_index (encode_utf8 c ++ rest) 1) (slice_index (encode_utf8 c ++ rest) 2) ≡ true = ap (λ u. are_wide_bytes (slice_index u 0) (slice_index u 1) (slice_index u 2)) bytes ∙ wide in
+        let is = wide-code c rest same in
+        (c, rest, sym bytes, is.0, is.1)
 
 -- a text that begins with them, up to a place before their end
 pub letters-before : (t w rest : List ℕ) (k : ℕ) → t ≡ w ++ rest → IsUtf8 w → list_all is_letter_byte w ≡ true → IsCharBoundary w k → k < length w → AreLettersBefore t (take k w)
@@ -267,6 +287,10 @@ module _ (t : List ℕ) (utf8 : IsUtf8 t) where
       let one : chars (take (length (encode_utf8 c)) t) ≡ c ∷ [] = ap chars bytes ∙ chars-encode_utf8 c (subst IsUtf8 bytes (IsUtf8-take t (length (encode_utf8 c)) utf8 boundary)) in
       record { boundary = boundary; plain = subst (λ cs. ArePlain cs width) (sym one) (width, 0, single, refl, omega arith) }
 
+  -- so is a kana or an ideograph
+  pub front-wide : (c : ℕ) (rest : List ℕ) → t ≡ encode_utf8 c ++ rest → is_wide c ≡ true → length (encode_utf8 c) ≡ 3 → IsPlainFront t 3 2
+  front-wide c rest bytes is size = subst (λ n. IsPlainFront t n 2) size (front-first c 2 rest bytes (wide-single c is))
+
   -- before the last of them
   pub front-before : {len n : ℕ} (last : ℕ) (front : List ℕ) → IsUtf8 front → IsPlainFront t len n → take len t ≡ front ++ encode_utf8 last → (width : ℕ) × (m : ℕ) × (n ≡ m + width) × (width ≡ cluster_width (last ∷ [])) × ArePlainBefore t (take (length front) t) m
   front-before {len} {n} last front front_utf8 all is =
@@ -384,27 +408,34 @@ wide-append : (cs : List ℕ) (n c width : ℕ) → AreWide cs n → IsPlainSing
 wide-append [] n c width none single solid = (width, 0, single, solid, refl, omega (arith, none))
 wide-append (e ∷ cs) n c width all single solid = (all.0, all.1 + width, all.2, all.3, wide-append cs all.1 c width all.4 single solid, omega (arith, all.5))
 
--- one more character after those that were passed
-module _ (t : List ℕ) (utf8 : IsUtf8 t) (at n : ℕ) (boundary : IsCharBoundary t at) (cs : List ℕ) (all : AreWide cs n) (front : take at t ≡ encode_utf8_all cs) (c width : ℕ) (single : IsPlainSingle c width) (solid : c ≢ byte " ") (rest : List ℕ) (next : drop at t ≡ encode_utf8 c ++ rest) where
-  pub wide-front : AreWideBefore t (take at t) n
-  wide-front = record {
-    singles = cs;
-    last = c;
-    width = width;
-    more = rest;
-    all = all;
-    last_is = single;
-    front_is = front;
-    bytes = sym (take-append-drop at t) ∙ ap (λ u. take at t ++ u) next;
-  }
+-- one more kana or ideograph after those that were passed
+module _ (t : List ℕ) (utf8 : IsUtf8 t) (at n : ℕ) (boundary : IsCharBoundary t at) (cs : List ℕ) (all : AreWide cs n) (front : take at t ≡ encode_utf8_all cs) (c : ℕ) (rest : List ℕ) (next : drop at t ≡ encode_utf8 c ++ rest) (is : is_wide c ≡ true) (size : length (encode_utf8 c) ≡ 3) where
+  solid : c ≢ byte " "
+  solid same = (let no : is_wide 0x20 ≡ true = ap is_wide (sym same) ∙ is in cc no)
 
-  pub wide-next : (ds : List ℕ) × AreWide ds (n + width) × (take (at + length (encode_utf8 c)) t ≡ encode_utf8_all ds)
+  pub wide-front : IsWideFront t (at + 3) (n + 2)
+  wide-front =
+      let place : at + 3 - 3 ≡ at = omega arith in
+      let count : n + 2 - 2 ≡ n = omega arith in
+      record {
+        size = omega arith;
+        wide = omega arith;
+        before = subst (λ k. AreWideBefore t (take k t) (n + 2 - 2)) (sym place) (subst (AreWideBefore t (take at t)) (sym count) (record {
+          singles = cs;
+          last = c;
+          width = 2;
+          more = rest;
+          all = all;
+          last_is = wide-single c is;
+          front_is = front;
+          bytes = sym (take-append-drop at t) ∙ ap (λ u. take at t ++ u) next;
+        }));
+      }
+
+  pub wide-next : (ds : List ℕ) × AreWide ds (n + 2) × (take (at + 3) t ≡ encode_utf8_all ds)
   wide-next = (
     cs ++ c ∷ [],
-    wide-append cs n c width all single solid,
-    take-add at (length (encode_utf8 c)) t ∙ ap₂ (λ u v. u ++ v) front (ap (take (length (encode_utf8 c))) next ∙ take_at (encode_utf8 c) rest (length (encode_utf8 c)) refl)
+    wide-append cs n c 2 all (wide-single c is) solid,
+    ap (λ k. take (at + k) t) (sym size) ∙ take-add at (length (encode_utf8 c)) t ∙ ap₂ (λ u v. u ++ v) front (ap (take (length (encode_utf8 c))) next ∙ take_at (encode_utf8 c) rest (length (encode_utf8 c)) refl)
         ∙ sym (encodes-append cs (c ∷ []) ∙ ap (λ u. encode_utf8_all cs ++ u) (append-nil (encode_utf8 c))),
   )
-
-  pub wide-boundary : IsCharBoundary t (at + length (encode_utf8 c))
-  wide-boundary = subst (λ n. IsCharBoundary t (at + n)) (sym (length-encode c)) (IsCharBoundary-past_char t rest at c boundary.0 (IsUtf8-drop t at utf8 boundary) next)

@@ -32,7 +32,7 @@ use Rattle.unicode_width.proofs.KindLemmas.{kind_stepped}
 use Rattle.ansi_safe.specs.Safe.{is_printing}
 use Rattle.ansi_clusters.specs.declared.break_state.BreakState.{BreakState}
 use Rattle.ansi_clusters.specs.declared.singles.TheConstants.{BLOCKS, WORDS, REST}
-use Rattle.ansi_clusters.specs.Letters.{is_letter}
+use Rattle.ansi_clusters.specs.Letters.{is_letter, is_wide}
 use Rattle.ansi_clusters.specs.BreakStates.{links, break_state_of, is_other, IsSingle, IsSingleValue, IsSingleConjunct, IsShownSingle}
 use Rattle.ansi_clusters.proofs.BreakLemmas.{break_state-push, is_grapheme_break-decided}
 
@@ -229,6 +229,27 @@ IsShownSingle-letter c is =
 
 pub letter-elsewhere : (c : ℕ) → is_letter c ≡ true → is_in_range 0xAC00 0xD7A3 c ≡ false
 letter-elsewhere c is = grind (arith, nat_tests)
+
+-- ---- kana and ideographs
+
+abbrev wide_ranges : List Range
+wide_ranges = (0x3001, 0x3029) ∷ (0x3041, 0x3096) ∷ (0x30A0, 0x30FF) ∷ (0x3400, 0x9FFF) ∷ []
+
+wide_have_two : (c : ℕ) → (not (in_ranges wide_ranges c) || columns c == 2) ≡ true
+unfolding tables columns_stepped grapheme_cluster_break_stepped indic_conjunct_break_stepped is_extended_pictographic_stepped kind_stepped in_ranges rises_from
+wide_have_two = Stepped-everywhere _ (zip_stepped (λ r n. not r || n == 2) (in_ranges wide_ranges) columns (of_ranges wide_ranges refl) columns_stepped) refl
+
+wide-inside : (c : ℕ) → is_wide c ≡ true → in_ranges wide_ranges c ≡ true
+unfolding in_ranges
+wide-inside c is = grind (arith, nat_tests)
+
+pub IsShownSingle-wide : (c : ℕ) → is_wide c ≡ true → IsShownSingle c 2
+IsShownSingle-wide c is =
+    let two : (columns c == 2) ≡ true = rw (wide-inside c is) at (wide_have_two c) in
+    IsShownSingle-columns c 2 (sym (eqb-true (columns c) 2 two)) (omega arith)
+
+pub wide-elsewhere : (c : ℕ) → is_wide c ≡ true → is_in_range 0xAC00 0xD7A3 c ≡ false
+wide-elsewhere c is = grind (arith, nat_tests)
 
 -- U+2026, an ellipsis, has one column
 

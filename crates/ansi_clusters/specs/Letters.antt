@@ -1,5 +1,5 @@
 -- Letters that are clusters of one column beside each other, and ideographs. No public contract cites it.
-use Rattle.std.specs.Prelude.{◌≡◌, ◌≢◌, ℕ, ◌+◌, ◌||◌, Bool, false, List, [], ◌∷◌, ◌++◌, take, chars, nat_lt, nat_le, encode_utf8, encode_utf8_all, IsTrue}
+use Rattle.std.specs.Prelude.{◌≡◌, ◌≢◌, ℕ, ◌+◌, ◌-◌, ◌≤◌, ◌==◌, ◌&&◌, ◌||◌, Bool, false, List, [], ◌∷◌, ◌++◌, take, chars, nat_lt, nat_le, encode_utf8, encode_utf8_all, IsTrue}
 use Rattle.std.specs.Int.{is_in_range}
 use Rattle.std.specs.List.{list_all}
 use Rattle.std.specs.Str.{byte, IsCharBoundary}
@@ -16,6 +16,16 @@ is_letter_byte b = is_in_range 0x20 0x7E b || (is_in_range 0x80 0xBF b || (is_in
 -- the byte is the first of a character (UTF-8)
 abbrev pub is_first_byte : ℕ → Bool
 is_first_byte b = nat_lt b 0x80 || nat_le 0xC0 b
+
+-- a mark or a bracket of U+3001 to U+3029, a kana, or a character of U+3400 to U+9FFF, as ideographs are
+abbrev pub is_wide : ℕ → Bool
+is_wide c = is_in_range 0x3001 0x3029 c || (is_in_range 0x3041 0x3096 c || (is_in_range 0x30A0 0x30FF c || is_in_range 0x3400 0x9FFF c))
+
+-- three bytes are such a character (UTF-8)
+abbrev pub are_wide_bytes : ℕ → ℕ → ℕ → Bool
+are_wide_bytes a b c =
+    is_in_range 0xE4 0xE9 a
+    || (a == 0xE3 && ((b == 0x83 || is_in_range 0x90 0xBF b) || ((b == 0x80 && is_in_range 0x81 0xA9 c) || ((b == 0x81 && nat_le 0x81 c) || (b == 0x82 && (nat_le c 0x96 || nat_le 0xA0 c))))))
 
 -- the text begins with letters, which have these bytes, and with another one after them
 pub record AreLettersBefore (t front : List ℕ) : Type 0 where
@@ -67,3 +77,9 @@ pub record AreWideBefore (t front : List ℕ) (columns : ℕ) : Type 0 where
   pub last_is : IsPlainSingle last width
   pub front_is : front ≡ encode_utf8_all singles
   pub bytes : t ≡ front ++ (encode_utf8 last ++ more)
+
+-- the first n bytes of the text are such characters, the last of which has three bytes and two columns
+pub record IsWideFront (t : List ℕ) (n columns : ℕ) : Type 0 where
+  pub size : 3 ≤ n
+  pub wide : 2 ≤ columns
+  pub before : AreWideBefore t (take (n - 3) t) (columns - 2)

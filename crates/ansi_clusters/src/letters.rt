@@ -1,16 +1,16 @@
 //! Letters of two bytes and printable ASCII, which are clusters of one column beside each other, and
 //! ideographs and the like.
-ghost use Rattle.std.specs.Prelude.{◌≡◌, ◌≢◌, ◌<◌, ◌≤◌, length, take, IfSome, slice_range};
+ghost use Rattle.std.specs.Prelude.{◌≡◌, ◌<◌, ◌≤◌, length, take, IfSome, slice_range};
 ghost use Rattle.std.specs.List.{count_by, prefix_len};
-ghost use Rattle.ansi_clusters.specs.Letters.{is_letter_byte, is_first_byte, AreLettersBefore};
-ghost use Rattle.ansi_clusters.specs.Letters.{IsPlainSingle, IsPlainFront, ArePlainBefore, AreWideBefore};
+ghost use Rattle.ansi_clusters.specs.Letters.{is_letter_byte, is_first_byte, are_wide_bytes, AreLettersBefore};
+ghost use Rattle.ansi_clusters.specs.Letters.{IsPlainSingle, IsPlainFront, IsWideFront, ArePlainBefore, AreWideBefore};
 
 use crate::singles::single_columns;
 use crate::walks::{Walk, char_width};
 use ansi_safe::printable::printable_len;
 use std::simd::prelude::*;
 
-/// The least number of bytes of a run, and of columns that are left, for which a stretch is looked for.
+/// The least number of bytes of a run, and of columns that are left, for which a stretch of letters is looked for.
 const LEAST: usize = 16;
 
 impl Walk {
@@ -31,7 +31,7 @@ impl Walk {
         ensures most { result.1 ≤ most }
     {
         let run = &text[self.offset..self.run_end];
-        if most < LEAST || !begins_stretch(run.as_bytes()) {
+        if !begins_stretch(run.as_bytes(), most) {
             return (self, 0);
         }
         let (len, columns) = stretch_before_last(run, most);
@@ -113,11 +113,50 @@ fn plain_part(text: &str) -> (usize, usize)
             let len = letters_len(text.as_bytes());
             (len, letter_count(&text[..len]))
         }
+        [0xE3..=0xE9, ..] => match wide_front(text, usize::MAX) {
+            (0, _) => others_front(text),
+            wide => wide,
+        },
         _ => others_front(text),
     }
 }
 
-/// The same of any characters, up to two of ASCII.
+/// The same of kana and ideographs, which are known by their bytes, and fit into `most` columns. Each of them
+/// has three bytes and two columns.
+#[inline(always)]
+fn wide_front(text: &str, most: usize) -> (usize, usize)
+    ensures plain { IsPlainFront text.now result.0 result.1 }
+    ensures before { 0 < result.0 → IsWideFront text.now result.0 result.1 }
+    ensures most { result.1 ≤ most }
+{
+    let bytes = text.as_bytes();
+    let mut at = 0;
+    let mut columns = 0;
+    'characters: while 3 <= bytes.len() - at
+        && 2 <= most - columns
+        && is_wide(bytes[at], bytes[at + 1], bytes[at + 2])
+    {
+        at += 3;
+        columns += 2;
+    }
+    (at, columns)
+}
+
+/// Whether three bytes are a kana or an ideograph.
+#[inline(always)]
+fn is_wide(first: u8, second: u8, third: u8) -> bool
+    ensures { result ≡ are_wide_bytes first second third }
+{
+    match (first, second) {
+        (0xE4..=0xE9, _) | (0xE3, 0x83 | 0x90..=0xBF) => true,
+        (0xE3, 0x80) => matches!(third, 0x81..=0xA9),
+        (0xE3, 0x81) => 0x81 <= third,
+        (0xE3, 0x82) => third <= 0x96 || 0xA0 <= third,
+        _ => false,
+    }
+}
+
+/// The same of any characters, up to two of ASCII, a kana or an ideograph.
 #[inline(always)]
 fn others_front(text: &str) -> (usize, usize)
     ensures { IsPlainFront text.now result.0 result.1 }
@@ -127,6 +166,9 @@ fn others_front(text: &str) -> (usize, usize)
     let mut chars = text.chars();
     'characters: while let Some(c) = chars.next() {
         if c.is_ascii() && matches!(chars.as_str().as_bytes(), [0..=0x7F, ..]) {
+            break;
+        }
+        if columns > 0 && matches!(c, '\u{3000}'..='\u{9FFF}') {
             break;
         }
         let Some(width) = plain_columns(c) else {
@@ -149,10 +191,10 @@ fn plain_columns(c: char) -> Option<usize>
     single_columns(c)
 }
 
-/// Whether a run seems to begin with a stretch of which it pays to look at all.
+/// Whether a run seems to begin with a stretch that it pays to look for, if `most` columns are left.
 #[inline(always)]
-fn begins_stretch(run: &[u8]) -> bool {
-    LEAST <= run.len() && (begins_letters(run) || begins_wide(run))
+fn begins_stretch(run: &[u8], most: usize) -> bool {
+    begins_wide(run) || LEAST <= run.len() && LEAST <= most && begins_letters(run)
 }
 
 /// Whether a run begins with two letters.
@@ -165,10 +207,10 @@ fn begins_letters(run: &[u8]) -> bool {
     )
 }
 
-/// Whether a run seems to begin with eight ideographs or the like.
+/// Whether a run seems to begin with four ideographs or the like.
 #[inline(always)]
 fn begins_wide(run: &[u8]) -> bool {
-    24 <= run.len() && matches!(run[0], 0xE3..=0xE9) && matches!(run[21], 0xE3..=0xE9)
+    12 <= run.len() && matches!(run[0], 0xE3..=0xE9) && matches!(run[9], 0xE3..=0xE9)
 }
 
 /// How many bytes of letters, or of kana, ideographs and the like, a text begins with, without the last
@@ -211,37 +253,11 @@ fn wide_before_last(text: &str, most: usize) -> (usize, usize)
     ensures within { result.0 ≤ length text.now }
     ensures most { result.1 ≤ most }
 {
-    let mut at = 0;
-    let mut columns = 0;
-    let mut front = 0;
-    let mut front_columns = 0;
-    'characters: while let Some(0xE3..=0xE9) = text.as_bytes().get(at) {
-        let Some(c) = text[at..].chars().next() else {
-            break;
-        };
-        let Some(width) = wide_columns(c) else {
-            break;
-        };
-        front = at;
-        front_columns = columns;
-        if most - columns < width {
-            break;
-        }
-        columns += width;
-        at += c.len_utf8();
+    let (len, columns) = wide_front(text, most.saturating_add(2));
+    if len == 0 {
+        return (0, 0);
     }
-    (front, front_columns)
-}
-
-/// The columns of a single character of U+3000 to U+9FFF.
-#[inline(always)]
-fn wide_columns(c: char) -> Option<usize>
-    ensures { IfSome result (λ columns. IsPlainSingle c columns × (c ≢ 32)) }
-{
-    if !matches!(c, '\u{3000}'..='\u{9FFF}') {
-        return None;
-    }
-    single_columns(c)
+    (len - 3, columns - 2)
 }
 
 /// How many bytes of letters are at the front. They are read 16 at a time, and the last 16 may overlap those

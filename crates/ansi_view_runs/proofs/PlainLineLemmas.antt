@@ -1,4 +1,4 @@
--- A text of printable ASCII and SGRs that leaves nothing open: it is shown as it is, and which changes leave it.
+-- A text of SGRs and characters that are clusters by themselves, which leaves nothing open: it is shown as it is, and which changes leave it.
 use Rattle.std.proofs.Common.{◌≡◌, ◌≢◌, ℕ, ◌-◌, ◌<◌, ◌≤◌, true, List, [], ◌∷◌, ◌++◌, length, map, max, nat_le, if◌then◌else◌, refl, sym, ◌∙◌, ap, ap₂, arith, append-nil}
 use Rattle.std.specs.Str.{IsUtf8}
 use Rattle.std.specs.Prelude.{bytes_eq, slice_index_or}
@@ -12,7 +12,6 @@ use Rattle.ansi_safe.specs.Links.{link_end, ending}
 use Rattle.ansi_safe.proofs.CellTextLemmas.{paragraph-stays}
 use Rattle.ansi_clusters.specs.Columns.{columns}
 use Rattle.ansi_clusters.specs.Lines.{lines}
-use Rattle.ansi_clusters.proofs.AsciiLemmas.{columns-printable}
 use Rattle.ansi_cells.specs.declared.shown.Alignment.{Alignment}
 use Rattle.ansi_cells.specs.declared.sides.Side.{Side}
 use Rattle.ansi_cells.specs.declared.sides.Side.TheVariants.{End, Start, Middle}
@@ -20,7 +19,7 @@ use Rattle.ansi_cells.specs.Fitted.{fitted}
 use Rattle.ansi_cells.specs.PlainCells.{IsPlainText, IsPlainCell}
 use Rattle.ansi_cells.specs.Shown.{truncated, padded}
 use Rattle.ansi_cells.specs.Sides.{is_cut_at_end, cut_before_end, truncated_at}
-use Rattle.ansi_cells.specs.Wrapped.{CarriedPart, line_over, lines_over, wrapped}
+use Rattle.ansi_cells.specs.Wrapped.{CarriedPart, lines_over, wrapped}
 use Rattle.ansi_cells.proofs.PlainCellLemmas.{plain-uncut, plain-padded}
 use Rattle.ansi_cells.proofs.ShownLemmas.{cut-bytes, between-none}
 use Rattle.ansi_wraps.proofs.LentLemmas.{lent-map}
@@ -38,7 +37,7 @@ plain-ending is closed = ap₂ (λ l s. link_end l ++ close s) is.link_is (sym i
 module _ {t : List ℕ} {n last : ℕ} {style : Rendition} (utf8 : IsUtf8 t) (is : IsPlainCell t n 0 style last) (closed : close style ≡ []) where
   -- it is as well a cell of a greater width
   wider : (width : ℕ) → n ≤ width → IsPlainCell t width (width - n) style last
-  wider width fits = record { text = is.text; sum = omega (arith, is.sum, fits); printable = is.printable; last_is = is.last_is }
+  wider width fits = record { text = is.text; sum = omega (arith, is.sum, fits); utf8 = is.utf8; singles = is.singles; last_is = is.last_is }
 
   -- with nothing after it
   alone : (t ++ ([] ++ close style)) ++ [] ≡ t
@@ -74,11 +73,9 @@ module _ {t : List ℕ} {n last : ℕ} {style : Rendition} (utf8 : IsUtf8 t) (is
       let same : paragraph t ≡ t = paragraph-stays t utf8 is.text.stays in
       let most = max width 1 in
       let within : n ≤ most = omega (arith, fits) in
-      let end : most - (most - n) ≡ length (plain t) = omega (arith, within, is.sum, columns-printable (plain t) is.printable) in
       lent-map (λ b. b) (bytes_eq (paragraph t) t) (lines_over plain_style [] (plain (paragraph t)) (marks (paragraph t)) (lines width (plain (paragraph t))))
       ∙ ap (λ u. map (λ (l : CarriedPart). l.bytes) (lines_over plain_style [] (plain u) (marks u) (lines width (plain u)))) same
       ∙ ap (map (λ (l : CarriedPart). l.bytes)) (only-line (wider most within) solid)
-      ∙ ap (λ m. (line_over plain_style [] (plain t) (marks t) (0, m)).bytes ∷ []) end
       ∙ ap (λ u. u ∷ []) (only-bytes t is.text.link_is ∙ ap (λ s. t ++ close s) (sym is.text.style_is) ∙ ap (λ c. t ++ c) closed ∙ append-nil t)
 
 -- ---- the only edit of a job

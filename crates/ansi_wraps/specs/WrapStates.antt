@@ -1,5 +1,5 @@
 -- What a wrap has left of its text. No public contract cites it.
-use Rattle.std.specs.Prelude.{◌≡◌, ◌≢◌, ℕ, ◌-◌, ◌≤◌, Bool, true, false, List, [], slice_range, Option, Some, None, IsSome}
+use Rattle.std.specs.Prelude.{◌≡◌, ◌≢◌, ℕ, ◌≤◌, Bool, true, false, List, [], length, slice_range, Option, Some, None, IsSome}
 use Rattle.std.specs.Cow.{cow_str_bytes}
 use Rattle.std.specs.Str.{byte, IsCharBoundary}
 use Rattle.std.specs.declared.borrow.CowStr.{CowStr}
@@ -15,7 +15,7 @@ use Rattle.ansi_wraps.specs.declared.wrap.spans.Next.TheVariants.{Only, At, Noth
 use Rattle.ansi_wraps.specs.declared.wrap.spans.OnlyLine.{OnlyLine}
 use Rattle.ansi_wraps.specs.declared.wrap.spans.Spans.{Spans}
 use Rattle.ansi_clusters.specs.Columns.{clusters}
-use Rattle.ansi_clusters.specs.Lines.{lines, lines_from, lines_left}
+use Rattle.ansi_clusters.specs.Lines.{lines_from, lines_left}
 use Rattle.ansi_cells.specs.PlainCells.{IsPlainCell}
 use Rattle.ansi_cells.specs.Wrapped.{CarriedPart, lines_over, marks_left, IsTaken}
 
@@ -66,13 +66,13 @@ pub record AreTaken (t : List ℕ) (s : Spans) (walk : Walk) : Type 0 where
   pub taken : IsTaken t s.before s.taken walk
   pub link : IsCharRange t s.pen.link_start s.pen.link_end
 
--- the text is printable ASCII and SGRs alone, fits into the width and doesn't end with a blank; the line is all of it
+-- the text is SGRs and characters that are clusters by themselves, fits into the width and doesn't end with a blank; the line is all of it
 pub record IsOnlyLine (t : List ℕ) (width : ℕ) (line : OnlyLine) : Type 0 where
   pub left : ℕ
   pub last : ℕ
   pub is_cell : IsPlainCell t width left (rendition_of line.style) last
   pub solid : last ≢ byte " "
-  pub len : line.len ≡ width - left
+  pub len : line.len ≡ length (plain t)
 
 -- they are spans of t, if this is the next line
 abbrev pub AreSpansAt : List ℕ → Spans → Next → Type 0

@@ -16,7 +16,7 @@ ghost use Rattle.ansi_wraps.specs.WrapStates.{AreNew, AreSpans, IsCharRange, IsO
 ghost use Rattle.ansi_wraps.specs.declared.wrap.spans.Next.TheVariants.{At};
 
 use crate::wrap::pens::PenAt;
-use ansi_cells::plain_cells::{PlainFront, ascii_runs};
+use ansi_cells::plain_cells::{PlainFront, line_runs};
 use ansi_clusters::lines::first_line;
 use ansi_clusters::views::View;
 use ansi_clusters::walks::Walk;
@@ -178,7 +178,8 @@ enum Next {
     Nothing,
 }
 
-/// A line that is all of a text, which is printable ASCII and select graphic renditions alone.
+/// A line that is all of a text, which is select graphic renditions and characters that are clusters by
+/// themselves alone.
 #[derive(Clone, Copy)]
 pub(crate) struct OnlyLine {
     /// The number of its plain bytes.
@@ -225,8 +226,8 @@ impl Spans {
         ensures lines { span_lines text.now result ≡ lines_of text.now width }
     {
         let width = width.max(1);
-        if let Some(front) = ascii_runs(text, width)
-            && let Some(line) = line_of_front(&front, width)
+        if let Some(front) = line_runs(text, width)
+            && let Some(line) = line_of_front(&front)
         {
             return Spans::begin(width, Next::Only(line));
         }
@@ -244,9 +245,9 @@ impl Spans {
         ensures none { IfNone result (¬ (paragraph text.now ≡ text.now)) }
     {
         let width = width.max(1);
-        let front = ascii_runs(text, width);
+        let front = line_runs(text, width);
         if let Some(front) = &front
-            && let Some(line) = line_of_front(front, width)
+            && let Some(line) = line_of_front(front)
         {
             return Some(Spans::begin(width, Next::Only(line)));
         }
@@ -366,20 +367,20 @@ impl Spans {
 
 /// The only line of a text, if this front is all of it and doesn't end with a blank. `None` says nothing.
 #[inline(always)]
-fn line_of_front(front: &PlainFront, width: usize) -> Option<OnlyLine>
-    requires { (text : List ℕ) × IsFront text width front.now }
-    ensures { (text : List ℕ) → IsFront text width front.now → IfSome result (IsOnlyLine text width) }
+fn line_of_front(front: &PlainFront) -> Option<OnlyLine>
+    ensures { (text : List ℕ) (width : ℕ) → IsFront text width front.now →
+        IfSome result (IsOnlyLine text width) }
 {
     if front.run.is_some() || front.last == b' ' {
         return None;
     }
     Some(OnlyLine {
-        len: width - front.left,
+        len: front.len,
         style: front.style,
     })
 }
 
-/// Whether a text is its own paragraph, after what `ascii_runs` returned for `width`.
+/// Whether a text is its own paragraph, after what `line_runs` returned for `width`.
 #[inline(always)]
 fn stays(text: &str, width: usize, front: &Option<PlainFront>) -> bool
     requires { IfSome front.now (IsFront text.now width) }

@@ -1,12 +1,13 @@
-use Rattle.std.proofs.Common.{◌≡◌}
+use Rattle.std.proofs.Common.{◌≡◌, ◌+◌, ◌-◌, ◌≤◌}
 use Rattle.ansi_items.specs.Scans.{pieces_left}
 use Rattle.ansi_style.specs.States.{rendition_of}
 use Rattle.ansi_cells.proofs.PlainCellLemmas.{IsPlainSoFar}
 use Rattle.ansi_cells.proofs.plain_cells.plain_runs.Given as goal
 
--- what was passed is printable ASCII and SGRs
+-- what was passed is SGRs and characters that are clusters by themselves
 abbrev pub invariant-loop-item : goal.invariant-loop-item
 invariant-loop-item l = record {
   text : l.item-iterator.text ≡ l.near;
-  so_far : IsPlainSoFar l.near l.width l.left (rendition_of l.style) l.last l.item-iterator.offset (pieces_left l.item-iterator);
+  so_far : IsPlainSoFar l.near l.width (l.left + l.others.spare) (rendition_of l.style) l.last (l.others.len + (l.others.left - (l.left + l.others.spare))) l.item-iterator.offset (pieces_left l.item-iterator);
+  less : l.left + l.others.spare ≤ l.others.left;
 }

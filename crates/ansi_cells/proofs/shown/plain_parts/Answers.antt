@@ -11,20 +11,20 @@ use Rattle.ansi_cells.proofs.shown.plain_parts.Goals as goal
 -- the text fits
 
 pub returns-in_default-clause-bytes : goal.returns-in_default-clause-bytes
-returns-in_default-clause-bytes g c = cut-bytes (plain-uncut c.args.tail.now c.utf8.text (rw c.in_default.is at c.requires)).cut
+returns-in_default-clause-bytes g c = cut-bytes (plain-uncut c.args.tail.now c.utf8.text (rw c.in_default.is at c.requires).is_cell).cut
 
 pub returns-in_default-clause-ending : goal.returns-in_default-clause-ending
-returns-in_default-clause-ending g c = cut-ending (plain-uncut c.args.tail.now c.utf8.text (rw c.in_default.is at c.requires)).cut
+returns-in_default-clause-ending g c = cut-ending (plain-uncut c.args.tail.now c.utf8.text (rw c.in_default.is at c.requires).is_cell).cut
 
 pub returns-in_default-clause-borrowed : goal.returns-in_default-clause-borrowed
-returns-in_default-clause-borrowed g c = (λ _. (plain-uncut c.args.tail.now c.utf8.text (rw c.in_default.is at c.requires)).kept, λ _. tt)
+returns-in_default-clause-borrowed g c = (λ _. (plain-uncut c.args.tail.now c.utf8.text (rw c.in_default.is at c.requires).is_cell).kept, λ _. tt)
 
 pub returns-in_default-clause-len : goal.returns-in_default-clause-len
 returns-in_default-clause-len g c =
-    omega (arith, cut-length (plain-uncut c.args.tail.now c.utf8.text (rw c.in_default.is at c.requires)).cut, length-cell c.args.text.now c.utf8.text)
+    omega (arith, cut-length (plain-uncut c.args.tail.now c.utf8.text (rw c.in_default.is at c.requires).is_cell).cut, length-cell c.args.text.now c.utf8.text)
 
 pub returns-in_default-clause-missing : goal.returns-in_default-clause-missing
-returns-in_default-clause-missing g c = (plain-uncut c.args.tail.now c.utf8.text (rw c.in_default.is at c.requires)).lack
+returns-in_default-clause-missing g c = (plain-uncut c.args.tail.now c.utf8.text (rw c.in_default.is at c.requires).is_cell).lack
 
 -- it doesn't
 

@@ -42,11 +42,11 @@ returns-then-width-columns-clause-missing c =
 pub longest-fits_beside-requires : goal.longest-fits_beside-requires
 longest-fits_beside-requires c =
     let t = c.args.text.now in
-    let from : IsFitted Shown t c.args.width c.if-columns-from.from = elim c.if-columns-from.branch [
-      | then-columns-from w ↦ subst (IsFitted Shown t c.args.width) (sym w.from-is) c.requires
-      | else-columns-from w ↦ subst (IsFitted Shown t c.args.width) (sym w.from-is) (w.start-from.ensures.fitted Shown)
-    ] in
-    c.narrowed.ensures Shown t c.args.width from
+    let room = c.args.width - c.tail_width-columns.result in
+    elim c.if-columns-from.branch [
+      | then-columns-from w ↦ subst (IsFitted Shown t room) (sym w.from-is) (w.narrowed-from.ensures Shown t c.args.width c.requires)
+      | else-columns-from w ↦ subst (IsFitted Shown t room) (sym w.from-is) w.fitted-from.ensures
+    ]
 
 -- the text fits
 

@@ -4,7 +4,7 @@ use Rattle.std.proofs.lemmas.Str.{IsUtf8-take, IsUtf8-drop}
 use Rattle.ansi_style.specs.States.{rendition_of}
 use Rattle.ansi_safe.specs.Cells.{paragraph}
 use Rattle.ansi_safe.proofs.CellTextLemmas.{paragraph-stays, paragraph-after_cell, paragraph-rest}
-use Rattle.ansi_cells.specs.PlainCells.{IsFront, IsPlainCell, IsAtRun}
+use Rattle.ansi_cells.specs.PlainCells.{IsFront, IsWholeFront, IsAtRun}
 use Rattle.ansi_cells.proofs.PlainFrontLemmas.{front-run, front-text, rest-pieces}
 use Rattle.ansi_wraps.proofs.wrap.spans.stays.Goals as goal
 
@@ -34,5 +34,5 @@ returns-in-None c =
     let width = c.args.width in
     let front = c.in-Some.front in
     let is : IsFront t width front = subst (λ o. IfSome o (IsFront t width)) c.in-Some.is c.requires in
-    let cell_is : IsPlainCell t width front.left (rendition_of front.style) front.last = subst (λ o. MatchOption o (IsPlainCell t width front.left (rendition_of front.style) front.last) (IsAtRun t width front.left (rendition_of front.style))) c.in-None.is is in
-    (λ _. paragraph-stays t c.utf8.text cell_is.text.stays, λ _. refl)
+    let whole : IsWholeFront t width front = subst (λ o. MatchOption o (IsWholeFront t width front) (IsAtRun t width front.left (rendition_of front.style))) c.in-None.is is in
+    (λ _. paragraph-stays t c.utf8.text whole.is_cell.text.stays, λ _. refl)

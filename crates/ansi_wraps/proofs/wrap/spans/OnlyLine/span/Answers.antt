@@ -6,7 +6,7 @@ use Rattle.ansi_wraps.proofs.OnlyLineLemmas.{only-line, only-span}
 use Rattle.ansi_wraps.proofs.wrap.spans.OnlyLine.span.Goals as goal
 
 pub invariant_of-result : goal.invariant_of-result
-invariant_of-result c = (let is = c.requires.1 in only-span is.is_cell c.utf8.text is.len c.plain_pen.ensures.style c.plain_pen.ensures.link refl refl)
+invariant_of-result c = (let is = c.requires.1 in only-span is.is_cell is.len c.plain_pen.ensures.style c.plain_pen.ensures.link refl refl)
 
 pub returns : goal.returns
 returns c = λ width is.

@@ -18,8 +18,8 @@ returns-clause-lines c =
 
 pub returns-clause-paragraph : goal.returns-clause-paragraph
 returns-clause-paragraph c =
-    let is = subst (λ o. IfSome o (IsFront c.args.text.now c.max-width.result)) c.in-Some.is c.ascii_runs-front.ensures in
-    let line = c.in-Some-line_of_front.ensures c.args.text.now is in
+    let is = subst (λ o. IfSome o (IsFront c.args.text.now c.max-width.result)) c.in-Some.is c.line_runs-front.ensures in
+    let line = c.in-Some-line_of_front.ensures c.args.text.now c.max-width.result is in
     paragraph-stays c.args.text.now c.utf8.text line.is_cell.text.stays
 
 -- or the first one begins at the beginning

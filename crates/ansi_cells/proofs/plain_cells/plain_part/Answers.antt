@@ -5,7 +5,7 @@ use Rattle.ansi_clusters.specs.Letters.{IsPlainFront}
 use Rattle.ansi_clusters.proofs.AsciiLemmas.{is_printable}
 use Rattle.ansi_clusters.proofs.LetterLemmas.{front-bound, front-more, front-printable}
 use Rattle.ansi_cells.proofs.PlainTextLemmas.{slice-boundary, slice-rest, slice-utf8}
-use Rattle.ansi_cells.proofs.widths.plain_part.Goals as goal
+use Rattle.ansi_cells.proofs.plain_cells.plain_part.Goals as goal
 
 pub returns-then-ascii-end : goal.returns-then-ascii-end
 returns-then-ascii-end c =
