@@ -8,7 +8,7 @@ use Rattle.std.proofs.lemmas.Grind.{flat_map-append}
 use Rattle.std.proofs.lemmas.List.{take_all, length-drop, drop_at, drop-drop, drop-take, take-append-le, take-take}
 use Rattle.std.proofs.lemmas.List.Folds.{list_all-append}
 use Rattle.std.proofs.lemmas.List.Sums.{sum_by-append}
-use Rattle.std.proofs.lemmas.Str.{IsUtf8-append, IsUtf8-from_ascii, IsUtf8-take}
+use Rattle.std.proofs.lemmas.Str.{encodes-chars, IsUtf8-append, IsUtf8-from_ascii, IsUtf8-take}
 use Rattle.std.proofs.lemmas.Str.Ascii.{IsAscii-from_all}
 use Rattle.unicode_segmentation.specs.Grapheme.{is_grapheme_break}
 use Rattle.ansi_items.specs.declared.ansitok.Item.{Item}
@@ -41,8 +41,9 @@ use Rattle.ansi_cells.specs.Shown.{has_tail, truncated_width, KeptStays}
 use Rattle.ansi_clusters.specs.Views.{seen, seen_text, seen_len}
 use Rattle.ansi_clusters.specs.Walks.{seen_clusters, IsWalkIn, IsNext, IsPrintable, IsPrintableFront, IsPastAscii, AreClustersIn, IsFittingTo, SeesUpTo, walk_at_run}
 use Rattle.ansi_clusters.proofs.AsciiLemmas.{is_printable, printable-below_7F, All-printable_is_ascii, width-single}
-use Rattle.ansi_clusters.proofs.ColumnLemmas.{fitting-before, sees-up_to}
+use Rattle.ansi_clusters.proofs.ColumnLemmas.{fitting-before, fitting-begin, sees-up_to}
 use Rattle.ansi_clusters.proofs.FitLemmas.{fitting-columns}
+use Rattle.ansi_clusters.proofs.LetterLemmas.{plain-bound}
 use Rattle.ansi_cells.proofs.FrontRunLemmas.{IsPlainPart, plain-part, run-bytes, run-walk-in}
 use Rattle.ansi_cells.proofs.KeptLemmas.{truncated-front}
 use Rattle.ansi_cells.proofs.MissingLemmas.{IsLack, lack-beside}
@@ -135,6 +136,9 @@ walk-at {t} {w} {width} {left} {passed} {at} {style = style} more ps v utf8 so_f
           (sym (pieces_of-unique _ _ (subst (λ i. ArePieces (take i t) (front ++ one_text (take n w))) i (subst (λ u. ArePieces (take (length (spelled front) + n) t) (front ++ one_text u)) same are))))
           (list_all-append is_plain_piece front (one_text (take n w)) ∙ and_from _ _ so_far.are_plain (one_text-plain (take n w) (part n printed)))
           (so_far.style_is ∙ sym (style_through-append plain_style front (one_text (take n w)) ∙ one_text-through (style_through plain_style front) (take n w)));
+      first = λ none.
+          let all : width ≡ left = omega (arith, so_far.sum, plain-bound (chars x) n so_far.plain, ap length (encodes-chars x so_far.utf8), place, none) in
+          subst (λ k. IsFittingTo Shown t width v.position k) all (subst (λ n. IsFittingTo Shown t width n width) (sym none) (fitting-begin Shown t width utf8));
       fitting = λ printed. fits (ends-printable Shown t utf8 x y n text so_far.utf8 so_far.plain w (more ++ plain_of ps) (append_assoc w more (plain_of ps)) some (part 1 printed));
       ends = λ ends. fits (ends-at Shown t utf8 x y n text so_far.utf8 so_far.plain v place walk ends);
       rest = λ k test all.

@@ -38,10 +38,11 @@ pub record IsPlainCell (t : List ℕ) (width left : ℕ) (style : Rendition) (la
   pub singles : ArePlain (chars (plain t)) (columns (plain t))
   pub last_is : last ≡ last_byte (plain t)
 
--- The text before a walk is such a text, also with printable ASCII of the walk's run. If the run begins with printable ASCII, or a cluster that ends in that ends there, the text before it fits and leaves this many columns. The pieces of the next k bytes are pieces of the text up to there.
+-- The text before a walk is such a text, also with printable ASCII of the walk's run. If the run is the first, or begins with printable ASCII, or a cluster that ends in that ends there, the text before it fits and leaves this many columns. The pieces of the next k bytes are pieces of the text up to there.
 pub record IsAtRun (t : List ℕ) (width left : ℕ) (style : Rendition) (walk : Walk) : Type 0 where
   pub is_walk : IsWalkIn Shown t walk
   pub front : (n : ℕ) → IsPrintableFront t walk n → IsPlainText (take (walk.offset + n) t) style
+  pub first : walk.position ≡ 0 → IsFittingTo Shown t width walk.position left
   pub fitting : IsPrintableFront t walk 1 → IsFittingTo Shown t width walk.position left
   pub ends : EndsAscii t walk → IsFittingTo Shown t width walk.position left
   pub rest : (k : ℕ) (test : Piece → Bool) → IsTrue (list_all test (pieces_of (take (walk.offset + k) t))) → IsTrue (list_all test (pieces_of (take k (drop walk.offset t))))

@@ -104,18 +104,24 @@ pub fn line_runs(text: &str, width: usize) -> Option<PlainFront>
 
 /// Whether a text that isn't ASCII may be one line, so that its front is looked for. It isn't if it is much
 /// longer than the line, ends with a blank, has a link or another control string first, or if a rule on
-/// clusters may join its first other character to another one.
+/// clusters may join its first other character to another one. Without a sequence it isn't either if it has more
+/// bytes than the line has columns, and its first other character is a no-break blank or a sign such as `°`.
 fn may_be_line(text: &str, width: usize) -> bool {
     let bytes = text.as_bytes();
     if width.saturating_mul(2) < bytes.len() || matches!(bytes, [.., b' ']) {
         return false;
     }
-    if let Some(at) = memchr(ESC, bytes)
+    let escape = memchr(ESC, bytes);
+    if let Some(at) = escape
         && !matches!(bytes.get(at + 1), Some(b'['))
     {
         return false;
     }
-    !may_join(&bytes[ascii_len(bytes)..])
+    let others = &bytes[ascii_len(bytes)..];
+    if escape.is_none() && width < bytes.len() && matches!(others, [0xC2, ..]) {
+        return false;
+    }
+    !may_join(others)
 }
 
 /// How many bytes of ASCII are at the front, in blocks of 8, and then one by one.
@@ -228,29 +234,41 @@ struct Others {
 /// The columns of the run from `start` up to `end`, if its characters are clusters by themselves beside each
 /// other, and fit into `most` columns, and how many columns to leave for a tail: one if more follows. `None` says
 /// nothing: a run that seems too wide or to have other characters isn't looked at.
-#[inline(never)]
+#[inline(always)]
 fn columns_of_others(text: &str, start: usize, end: usize, most: usize) -> Option<(usize, usize)>
-    requires some { start < end }
+    requires ordered { start ≤ end }
     requires start { IsCharBoundary text.now start }
     requires end { IsCharBoundary text.now end }
     ensures run { IfSome result (λ (columns, spare).
         IsPlainFront (slice_range text.now start end) (end - start) columns) }
     ensures most { IfSome result (λ (columns, spare). columns + spare ≤ most) }
 {
-    let spare = if end < text.len() { 1 } else { 0 };
-    let room = most.saturating_sub(spare);
     let run = &text.as_bytes()[start..end];
     // Letters have at most two bytes for a column, and most runs of Japanese three for two.
-    let bytes = match run[0] {
-        0..=0x7F => room,
-        0xC0..=0xDF => room.saturating_mul(2),
-        _ => room.saturating_add(room / 2),
+    let bytes = match run {
+        [0..=0x7F, ..] => most,
+        [0xC0..=0xDF, ..] => most.saturating_mul(2),
+        _ => most.saturating_add(most / 2),
     };
     if bytes < run.len() || may_join(run) {
         return None;
     }
+    columns_that_fit(text, start, end, most)
+}
+
+/// The same, of any run.
+#[inline(never)]
+fn columns_that_fit(text: &str, start: usize, end: usize, most: usize) -> Option<(usize, usize)>
+    requires ordered { start ≤ end }
+    requires start { IsCharBoundary text.now start }
+    requires end { IsCharBoundary text.now end }
+    ensures run { IfSome result (λ (columns, spare).
+        IsPlainFront (slice_range text.now start end) (end - start) columns) }
+    ensures most { IfSome result (λ (columns, spare). columns + spare ≤ most) }
+{
     let (len, columns) = plain_part(text, start, end);
-    if len < end - start || room < columns || most < spare {
+    let spare = if end < text.len() { 1 } else { 0 };
+    if len < end - start || most < columns || most - columns < spare {
         return None;
     }
     Some((columns, spare))
@@ -301,17 +319,15 @@ fn begins_otherwise(text: &str) -> bool {
 }
 
 /// The longest known prefix of a text that fits, after what `plain_runs` returned for `width`.
+#[inline(always)]
 pub(crate) fn fitted(text: &str, width: usize, front: &Option<PlainFront>) -> Fitted
     requires { IfSome front.now (IsFront text.now width) }
     ensures { IsFitted View.Shown text.now width result }
 {
-    let Some(front) = front else {
-        return Fitted::start(text, width);
-    };
-    let Some(walk) = front.run else {
-        return Fitted::start(text, width);
-    };
-    if walk.ends_ascii(text) {
+    if let Some(front) = front
+        && let Some(walk) = front.run
+        && (walk.position == 0 || walk.ends_ascii(text))
+    {
         return Fitted {
             walk,
             left: front.left,

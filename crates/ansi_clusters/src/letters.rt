@@ -168,12 +168,12 @@ fn others_front(text: &str) -> (usize, usize)
         if c.is_ascii() && matches!(chars.as_str().as_bytes(), [0..=0x7F, ..]) {
             break;
         }
-        if columns > 0 && matches!(c, '\u{3000}'..='\u{9FFF}') {
-            break;
-        }
         let Some(width) = plain_columns(c) else {
             break;
         };
+        if width == 2 && columns > 0 && matches!(c, '\u{3000}'..='\u{9FFF}') {
+            break;
+        }
         rest = chars.as_str();
         columns += width;
     }
