@@ -461,32 +461,24 @@ fn is_known_apart(asked: bool, walk: Walk, tail: &str) -> bool
     asked && is_apart(walk, tail)
 }
 
-/// Whether a tail has no sequence, and a cluster ends before it, if it is written where a walk is.
-/// `false` says nothing.
+/// Whether a tail has no sequence, and a cluster ends before it, if it is written where a walk is. `…` isn't
+/// searched. `false` says nothing.
 fn is_apart(walk: Walk, tail: &str) -> bool
     ensures bare { IsTrue result → IsTrue (list_all is_plain_byte tail.now) }
     ensures breaks { IsTrue result → (before : List ℕ) → before ≢ [] →
         walk.break_state ≡ break_state_of before →
         is_grapheme_break true before (chars tail.now) ≡ true }
 {
-    if !is_bare(tail) {
+    if tail == "…" {
+        return walk.break_state.ends_before('…');
+    }
+    if first_run(tail) != (0, tail.len()) {
         return false;
     }
     match tail.chars().next() {
         Some(first) => walk.break_state.ends_before(first),
         None => true,
     }
-}
-
-/// Whether a tail has no sequence. That of `…` is known without a search. `false` says nothing.
-#[inline(always)]
-fn is_bare(tail: &str) -> bool
-    ensures { IsTrue result → IsTrue (list_all is_plain_byte tail.now) }
-{
-    if tail == "…" {
-        return true;
-    }
-    first_run(tail) == (0, tail.len())
 }
 
 /// A shown text, as it is joined. A borrow if nothing is written before and after its text.

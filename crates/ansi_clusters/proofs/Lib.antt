@@ -10,6 +10,7 @@ pub mod ReverseLemmas
 pub mod NearLemmas
 pub mod LastMarkLemmas
 pub mod WidthLemmas
+mod MarkLemmas
 pub mod ColumnLemmas
 pub mod FromEndLemmas
 pub mod FitLemmas

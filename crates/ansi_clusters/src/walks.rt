@@ -12,7 +12,7 @@ ghost use Rattle.ansi_clusters.specs.Walks.{before, after, seen_before, seen_aft
 ghost use Rattle.ansi_clusters.specs.Words.{ArePastLetters};
 ghost use Rattle.ansi_clusters.specs.Walks.{IsRun, IsWalkIn, IsWalk, IsAnyWalk, IsTightWalk, IsNext, IsPastCluster, IsPastClusters};
 ghost use Rattle.ansi_clusters.specs.Walks.{IsSeenNext, IsPrintable, IsPrintableFront, AreClustersIn, IsPastAscii, is_seen_ascii};
-ghost use Rattle.ansi_clusters.specs.Walks.{IsPastFirst, IsPastLast, IsNextRun, EndsAscii, BreaksAfterAscii, walk_at, walk_at_run, walk_on};
+ghost use Rattle.ansi_clusters.specs.Walks.{is_bare_mark, IsPastFirst, IsPastLast, IsNextRun, EndsAscii, BreaksAfterAscii, walk_at, walk_at_run, walk_on};
 
 use crate::break_state::BreakState;
 use crate::from_end;
@@ -174,13 +174,15 @@ impl Walk {
             IsPastCluster view text.now self walk width) }
     {
         let mut walk = after_first;
+        let mut marks = true;
         'cluster: while let (here, Some(next)) = walk.next_seen(text, view) {
             if here.break_state.ends_before(next) {
                 break;
             }
             walk = here.past(text, next);
+            marks &= is_bare_mark(next);
         }
-        let width = if walk.position == after_first.position {
+        let width = if marks {
             char_width(first)
         } else {
             self.width_up_to(text, &walk, view)
@@ -704,6 +706,22 @@ fn breaks_after_ascii(c: char) -> bool
         return false;
     }
     BreakState::start().ends_before(c)
+}
+
+/// Whether a character is an accent of Latin or Greek, or a Thai vowel or tone above or below a letter, which have
+/// no column.
+#[inline(always)]
+fn is_bare_mark(c: char) -> bool
+    ensures { result ≡ is_bare_mark c }
+{
+    matches!(
+        c,
+        '\u{300}'..='\u{337}'
+            | '\u{339}'..='\u{36F}'
+            | '\u{E31}'
+            | '\u{E34}'..='\u{E3A}'
+            | '\u{E47}'..='\u{E4E}'
+    )
 }
 
 /// The columns of a cluster of one character.

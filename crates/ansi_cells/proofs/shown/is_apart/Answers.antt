@@ -1,15 +1,38 @@
-use Rattle.std.proofs.Common.{◌≡◌, ◌≢◌, ℕ, true, List, [], ◌∷◌, chars, refl, sym, ◌∙◌, ap, arith}
+use Rattle.std.proofs.Common.{◌≡◌, ◌≢◌, ℕ, true, List, [], ◌∷◌, refl, sym, ◌∙◌, ap, arith}
+use Rattle.std.specs.Str.{chars}
+use Rattle.std.specs.List.{list_all}
+use Rattle.std.proofs.lemmas.Bool.Decides.{Decides-eqb}
 use Rattle.std.proofs.lemmas.List.{nil_from_length}
+use Rattle.std.proofs.lemmas.Slice.Eq.{slice_eq-Decides}
 use Rattle.std.proofs.lemmas.Str.{chars-nil, chars_past_char}
 use Rattle.unicode_segmentation.specs.Grapheme.{is_grapheme_break}
+use Rattle.ansi_items.specs.Bytes.{is_plain_byte}
 use Rattle.ansi_clusters.proofs.ClusterLawLemmas.{breaks-last}
 use Rattle.ansi_cells.proofs.shown.is_apart.Goals as goal
+
+-- an ellipsis is a character, and has no ESC
+
+chars-ellipsis : chars (0xE2 ∷ 0x80 ∷ 0xA6 ∷ []) ≡ 0x2026 ∷ []
+unfolding chars
+chars-ellipsis = refl
+
+pub returns-then-eq-clause-bare : goal.returns-then-eq-clause-bare
+returns-then-eq-clause-bare c =
+    let is = (slice_eq-Decides Decides-eqb c.args.tail.now (0xE2 ∷ 0x80 ∷ 0xA6 ∷ []) _ c.eq.ensures).0 c.if-eq.true in
+    λ _. ap (list_all is_plain_byte) is
+
+pub returns-then-eq-clause-breaks : goal.returns-then-eq-clause-breaks
+returns-then-eq-clause-breaks c =
+    let is = (slice_eq-Decides Decides-eqb c.args.tail.now (0xE2 ∷ 0x80 ∷ 0xA6 ∷ []) _ c.eq.ensures).0 c.if-eq.true in
+    λ holds before some state. ap (is_grapheme_break true before) (ap chars is ∙ chars-ellipsis) ∙ sym (c.ends_before.ensures before [] some state) ∙ holds
+
+-- another tail
 
 pub returns-in-Some-clause-breaks : goal.returns-in-Some-clause-breaks
 returns-in-Some-clause-breaks c =
     let rest = c.next.new.self.rest.now in
     let first = chars_past_char c.args.tail.now rest c.in-Some.first c.utf8.tail (sym c.chars.ensures.rest ∙ c.in-Some.ensures.steps.0) in
-    λ holds before some is. ap (is_grapheme_break true before) first ∙ sym (c.ends_before.ensures before (chars rest) some is) ∙ holds
+    λ holds before some is. ap (is_grapheme_break true before) first ∙ sym (c.ends_before-in-Some.ensures before (chars rest) some is) ∙ holds
 
 -- nothing follows
 at_end : (before : List ℕ) → before ≢ [] → is_grapheme_break true before [] ≡ true

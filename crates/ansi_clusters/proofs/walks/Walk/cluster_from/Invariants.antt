@@ -1,7 +1,8 @@
-use Rattle.std.proofs.Common.{◌-◌, length}
+use Rattle.std.proofs.Common.{◌≡◌, ◌-◌, ◌≤◌, [], ◌∷◌, length, IsTrue}
+use Rattle.ansi_clusters.specs.Columns.{cluster_width}
 use Rattle.ansi_items.specs.Plain.{plain}
 use Rattle.ansi_clusters.specs.Views.{IsTight}
-use Rattle.ansi_clusters.specs.Walks.{IsWalkIn}
+use Rattle.ansi_clusters.specs.Walks.{IsWalkIn, seen_cluster}
 use Rattle.ansi_clusters.proofs.ClusterWalkLemmas.{IsClusterTo}
 use Rattle.ansi_clusters.proofs.walks.Walk.cluster_from.Given as goal
 
@@ -11,6 +12,8 @@ invariant-cluster l = record {
   walk : IsWalkIn l.view l.text l.walk;
   so_far : IsClusterTo l.view l.text l.self.position l.walk.position;
   tight : IsTight l.view l.text l.walk.position;
+  ordered : l.fn.after_first.position ≤ l.walk.position;
+  columns : IsTrue l.marks → cluster_width (seen_cluster l.view l.text l.self.position l.walk.position) ≡ cluster_width (l.first ∷ []);
 }
 
 abbrev pub decreases-cluster : goal.decreases-cluster
