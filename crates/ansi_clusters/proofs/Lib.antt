@@ -10,13 +10,14 @@ pub mod ReverseLemmas
 pub mod NearLemmas
 pub mod LastMarkLemmas
 pub mod WidthLemmas
-mod MarkLemmas
+pub mod AddedLemmas
 pub mod ColumnLemmas
 pub mod FromEndLemmas
 pub mod FitLemmas
 pub mod ClusterWalkLemmas
 pub mod PrintableLemmas
 pub mod SingleWalkLemmas
+pub mod AddedWalkLemmas
 pub mod LetterLemmas
 pub mod KindLemmas
 pub mod LineLemmas

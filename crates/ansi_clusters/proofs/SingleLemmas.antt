@@ -33,7 +33,7 @@ use Rattle.ansi_safe.specs.Safe.{is_printing}
 use Rattle.ansi_clusters.specs.declared.break_state.BreakState.{BreakState}
 use Rattle.ansi_clusters.specs.declared.singles.TheConstants.{BLOCKS, WORDS, REST}
 use Rattle.ansi_clusters.specs.Letters.{is_letter, is_wide}
-use Rattle.ansi_clusters.specs.BreakStates.{links, break_state_of, is_other, IsSingle, IsSingleValue, IsSingleConjunct, IsShownSingle}
+use Rattle.ansi_clusters.specs.BreakStates.{links, break_state_of, state_of, is_other, IsSingle, IsSingleValue, IsSingleConjunct, IsShownSingle}
 use Rattle.ansi_clusters.proofs.BreakLemmas.{break_state-push, is_grapheme_break-decided}
 
 -- ---- the table
@@ -274,11 +274,8 @@ single-elsewhere c is outside =
 
 -- ---- characters that no rule joins to each other
 
-abbrev state_of : GraphemeClusterBreak → BreakState
-state_of v = record { last = v; is_linked = false; is_pictograph = false; is_joined = false; is_half_flag = false }
-
 -- what holds of each such value holds of any
-single_value-each : (P : GraphemeClusterBreak → Type 0) → P Other → P Lv → P Lvt → (v : GraphemeClusterBreak) → IsSingleValue v → P v
+pub single_value-each : (P : GraphemeClusterBreak → Type 0) → P Other → P Lv → P Lvt → (v : GraphemeClusterBreak) → IsSingleValue v → P v
 single_value-each P other lv lvt v is = elim is [
   | inl e ↦ subst P (sym e) other
   | inr named ↦ elim named [
@@ -309,7 +306,7 @@ break_state-single c before v single value =
     (ap (λ z. z && s.is_pictograph) (sym none.1)) (ap (λ r. r && not s.is_half_flag) (sym none.2))
 
 -- a cluster ends between two of these values
-single-pair : (v w : GraphemeClusterBreak) → IsSingleValue v → IsSingleValue w → unwrap_or (break_by_pair true v w) true ≡ true
+pub single-pair : (v w : GraphemeClusterBreak) → IsSingleValue v → IsSingleValue w → unwrap_or (break_by_pair true v w) true ≡ true
 single-pair v w first second =
     let IsBreak : GraphemeClusterBreak → GraphemeClusterBreak → Type 0 = λ a b. unwrap_or (break_by_pair true a b) true ≡ true in
     single_value-each (λ a. IsBreak a w)

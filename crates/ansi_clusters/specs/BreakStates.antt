@@ -1,5 +1,6 @@
 -- A summary of the characters before a place, as much as the rules on clusters look back at. No public contract cites it.
-use Rattle.std.specs.Prelude.{◌≡◌, ◌⊎◌, ℕ, ◌<◌, Bool, true, false, ◌&&◌, List, [], ◌∷◌, map, IsTrue}
+use Rattle.std.specs.Prelude.{◌≡◌, ◌⊎◌, ℕ, ◌+◌, ◌<◌, ◌==◌, Bool, true, false, ◌&&◌, ◌||◌, List, [], ◌∷◌, map, Option, Some, None, IsTrue, if◌then◌else◌}
+use Rattle.std.specs.Int.{is_in_range}
 use Rattle.ucd_breaks.specs.GraphemeClusterBreak.{grapheme_cluster_break}
 use Rattle.ucd_breaks.specs.declared.GraphemeClusterBreak.{GraphemeClusterBreak}
 use Rattle.ucd_breaks.specs.declared.GraphemeClusterBreak.TheVariants.{Lv, Lvt, Other}
@@ -63,3 +64,18 @@ pub record IsShownSingle (c columns : ℕ) : Type 0 where
   pub printing : IsTrue (is_printing c)
   pub some : 0 < columns
   pub columns_are : columns ≡ cluster_width (c ∷ [])
+
+-- the summary if only the value of the last character is looked back at
+abbrev pub state_of : GraphemeClusterBreak → BreakState
+state_of v = record { last = v; is_linked = false; is_pictograph = false; is_joined = false; is_half_flag = false }
+
+-- the columns that a character adds to a cluster that it extends, if they don't depend on the others: none if it is an accent of Latin or Greek, but for U+0338, which may strike out a sign, or a Thai vowel or tone above or below a letter; one if it is U+0E33, a Thai vowel (unicode-width)
+abbrev pub added_columns : ℕ → Option ℕ
+added_columns c =
+    if is_in_range 0x300 0x337 c || (is_in_range 0x339 0x36F c || ((c == 0xE31) || (is_in_range 0xE34 0xE3A c || is_in_range 0xE47 0xE4E c))) then Some 0
+    else if c == 0xE33 then Some 1
+    else None
+
+-- the columns of a cluster with one character more, if they are known
+abbrev pub IsWithAdded : Option ℕ → ℕ → ℕ → Type 0
+IsWithAdded columns c sum = (n : ℕ) × (more : ℕ) × (columns ≡ Some n) × (added_columns c ≡ Some more) × (sum ≡ n + more)

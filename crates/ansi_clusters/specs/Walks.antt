@@ -1,7 +1,6 @@
 -- The state of a walk over the characters of a plain text. No public contract cites it.
 use Rattle.std.specs.Prelude.{◌≡◌, ◌≢◌, ℕ, ◌+◌, ◌*◌, ◌-◌, ◌<◌, ◌≤◌, ◌==◌, ◌||◌, Bool, true, List, [], ◌∷◌, ◌++◌, length, take, drop, reverse, slice_index, slice_range, encode_utf8, chars, nat_lt, IsTrue}
 use Rattle.std.specs.List.{list_all}
-use Rattle.std.specs.Int.{is_in_range}
 use Rattle.std.specs.Str.{byte, IsCharBoundary}
 use Rattle.ansi_items.specs.Bytes.{is_plain_byte}
 use Rattle.ansi_items.specs.Plain.{plain}
@@ -139,10 +138,6 @@ IsNextRun view t walk next = 0 < next.end → IsPastByte view t walk (walk_at wa
 -- a cluster that ends in printable ASCII ends at the walk, whatever is before it
 abbrev pub EndsAscii : List ℕ → Walk → Type 0
 EndsAscii t walk = (view : View) → IsWalkIn view t walk → (before : List ℕ) (b : ℕ) → IsTrue (is_printable_byte b) → is_grapheme_break true (b ∷ before) (seen_after view t walk.position) ≡ true
-
--- an accent of Latin or Greek, or a Thai vowel or tone above or below a letter, which have no column
-abbrev pub is_bare_mark : ℕ → Bool
-is_bare_mark c = is_in_range 0x300 0x337 c || (is_in_range 0x339 0x36F c || ((c == 0xE31) || (is_in_range 0xE34 0xE3A c || is_in_range 0xE47 0xE4E c)))
 
 -- the cluster has columns
 abbrev pub has_width : List ℕ → Bool

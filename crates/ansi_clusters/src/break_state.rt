@@ -1,13 +1,13 @@
 //! Whether a cluster ends between two characters (UAX #29). The test uses a summary of the
 //! characters before.
-ghost use Rattle.std.specs.Prelude.{◌≡◌, ◌≢◌, ℕ, List, true, [], ◌∷◌};
+ghost use Rattle.std.specs.Prelude.{◌≡◌, ◌≢◌, ℕ, List, true, [], ◌∷◌, Some};
 ghost use Rattle.std.specs.Int.{is_in_range};
 ghost use Rattle.unicode_segmentation.specs.Grapheme.{is_grapheme_break, break_by_pair, is_extend};
 ghost use Rattle.unicode_segmentation.specs.Grapheme.{is_zwj, is_regional, is_consonant};
 ghost use Rattle.ucd_derived.specs.IndicConjunctBreak.{indic_conjunct_break};
 ghost use Rattle.ucd_breaks.specs.GraphemeClusterBreak.{grapheme_cluster_break};
 ghost use Rattle.ucd_emoji.specs.Binary.{is_extended_pictographic};
-ghost use Rattle.ansi_clusters.specs.BreakStates.{break_state_of, is_other, links, IsSingle};
+ghost use Rattle.ansi_clusters.specs.BreakStates.{break_state_of, is_other, links, IsSingle, state_of, added_columns};
 
 use crate::singles::is_single;
 use ucd_breaks::GraphemeClusterBreak;
@@ -35,8 +35,16 @@ impl BreakState {
     pub fn start() -> BreakState
         ensures { result ≡ break_state_of [] }
     {
+        BreakState::of(Other)
+    }
+
+    /// The summary if only the value of the last character is looked back at.
+    #[inline(always)]
+    fn of(last: GraphemeClusterBreak) -> BreakState
+        ensures { result ≡ state_of last }
+    {
         BreakState {
-            last: Other,
+            last,
             is_linked: false,
             is_pictograph: false,
             is_joined: false,
@@ -54,13 +62,7 @@ impl BreakState {
             return BreakState::after_single(c);
         }
         if c == '\n' {
-            return BreakState {
-                last: Lf,
-                is_linked: false,
-                is_pictograph: false,
-                is_joined: false,
-                is_half_flag: false,
-            };
+            return BreakState::of(Lf);
         }
         let value = GraphemeClusterBreak::for_char(c);
         BreakState {
@@ -78,12 +80,19 @@ impl BreakState {
         requires { IsSingle c }
         ensures { (before : List ℕ) → result ≡ break_state_of (c ∷ before) }
     {
-        BreakState {
-            last: single_value(c),
-            is_linked: false,
-            is_pictograph: false,
-            is_joined: false,
-            is_half_flag: false,
+        BreakState::of(single_value(c))
+    }
+
+    /// The summary after a character that `added_columns` knows, which extends a single one.
+    #[inline(always)]
+    pub(crate) fn after_added(c: char) -> BreakState
+        requires { (k : ℕ) × (added_columns c ≡ Some k) }
+        ensures { result ≡ state_of (grapheme_cluster_break c) }
+    {
+        if c == '\u{E33}' {
+            BreakState::of(SpacingMark)
+        } else {
+            BreakState::of(Extend)
         }
     }
 

@@ -11,7 +11,7 @@ pub returns-then-is_single : goal.returns-then-is_single
 returns-then-is_single c before is = c.after_single.ensures before
 
 pub returns-then-c-eq10 : goal.returns-then-c-eq10
-returns-then-c-eq10 c before is = break_state-line_feed before ∙ ap (λ d. break_state_of (d ∷ before)) (sym c.if-c-eq10.true)
+returns-then-c-eq10 c before is = c.of.ensures ∙ break_state-line_feed before ∙ ap (λ d. break_state_of (d ∷ before)) (sym c.if-c-eq10.true)
 
 pub returns-then-is_regional : goal.returns-then-is_regional
 returns-then-is_regional c before is =

@@ -1,12 +1,11 @@
-use Rattle.std.proofs.Common.{◌≡◌, ◌<◌, ◌+◌, ◌≤◌, ◌∷◌, ◌++◌, true, false, encode_utf8, [], None, refl, sym, ◌∙◌, ap, length, arith, rules}
+use Rattle.std.proofs.Common.{◌≡◌, ◌<◌, ◌*◌, ◌-◌, ◌^◌, ◌+◌, ◌≤◌, ◌∷◌, ◌++◌, true, false, encode_utf8, [], None, refl, sym, ◌∙◌, ap, length, arith, rules}
+use Rattle.ansi_items.proofs.PlainLemmas.{length-plain}
 use Rattle.unicode_segmentation.specs.Grapheme.{is_grapheme_break}
 use Rattle.unicode_segmentation.proofs.TextLemmas.{encode_utf8_nonempty}
 use Rattle.ansi_clusters.specs.BreakStates.{break_state_of}
-use Rattle.ansi_clusters.specs.Columns.{cluster_width}
 use Rattle.ansi_clusters.specs.Views.{seen}
-use Rattle.std.proofs.lemmas.Bool.{and_parts}
-use Rattle.ansi_clusters.proofs.MarkLemmas.{mark-adds}
-use Rattle.ansi_clusters.specs.Walks.{is_bare_mark, after, seen_before, seen_after, seen_cluster, seen_clusters, IsSeenNext}
+use Rattle.ansi_clusters.proofs.AddedLemmas.{IsExtendedBy, extended-one, extended-width, known-push, known-less}
+use Rattle.ansi_clusters.specs.Walks.{after, seen_before, seen_after, seen_cluster, seen_clusters, IsSeenNext}
 use Rattle.ansi_clusters.proofs.ClusterWalkLemmas.{seen_cluster-past, cluster-first, cluster-more, cluster-stops, cluster-is_last}
 use Rattle.ansi_clusters.proofs.ViewLemmas.{cluster-split, seen-nil, before-none, after-none, after-one}
 use Rattle.ansi_clusters.proofs.TightLemmas.{tight-one}
@@ -27,7 +26,7 @@ cluster-init c =
       so_far = cluster-first view t c.utf8.text n m c.args.first less (walk_boundary t c.utf8.text c.args.self c.requires.walk) (walk_boundary t c.utf8.text c.args.after_first first.walk) first.one;
       tight = c.requires.tight;
       ordered = omega arith;
-      columns = λ _. ap cluster_width first.one;
+      known = (extended-one (seen_cluster view t n m) c.args.first c.char_width.result first.one c.char_width.ensures.value, omega (arith, c.char_width.ensures.bound, first.size));
     }
 
 pub cluster-preserved : goal.cluster-preserved
@@ -54,9 +53,18 @@ cluster-preserved c =
       so_far = cluster-more view t c.utf8.text c.args.self.position p m c.in_default-Some.next (walk_boundary t c.utf8.text c.args.self c.requires.walk) inv.so_far past.3 begin past.0 past.2 joins;
       tight = tight-one view t c.utf8.text here.position m (omega (arith, c.past-walk.ensures.position)) (walk_boundary t c.utf8.text here found.walk) past.0 c.in_default-Some.next past.1 c.past-walk.ensures.position;
       ordered = omega (arith, inv.ordered, past.3);
-      columns = λ all. (let both = and_parts c.cluster.marks c.is_bare_mark-marks.result all in
-          ap cluster_width pushed ∙ mark-adds c.in_default-Some.next (seen_cluster view t n p) (sym c.is_bare_mark-marks.ensures ∙ both.1) ∙ inv.columns both.0);
+      known = known-push c.cluster.columns c.with_added-columns.result (seen_cluster view t n p) (seen_cluster view t n m) c.args.first c.in_default-Some.next (2 * (p - n)) (2 * (m - n)) inv.known c.with_added-columns.ensures pushed (omega (arith, past.3, inv.so_far.ahead));
     }
+
+pub with_added-columns-requires : goal.with_added-columns-requires
+with_added-columns-requires c =
+    let t = c.args.text.now in
+    let view = c.args.view in
+    let inv = c.cluster.invariant in
+    let n = c.args.self.position in
+    let p = c.cluster.walk.position in
+    let size : length t < 2 ^ 63 = search rules in
+    known-less c.cluster.columns (seen_cluster view t n p) c.args.first (2 * (p - n)) (2 ^ 64) inv.known (omega (arith, size, inv.walk.within, length-plain t))
 
 pub cluster-smaller : goal.cluster-smaller
 cluster-smaller c =
@@ -71,8 +79,8 @@ cluster-smaller c =
 
 -- the cluster ends before the next character that is seen, or since none is
 
-pub returns-then-marks : goal.returns-then-marks
-returns-then-marks c =
+pub returns-in-Some : goal.returns-in-Some
+returns-in-Some c =
     let t = c.args.text.now in
     let view = c.args.view in
     let inv = c.cluster.invariant in
@@ -82,6 +90,7 @@ returns-then-marks c =
     let here = c.next_seen.result.0 in
     let more = c.next_seen.ensures in
     let here_begin = walk_boundary t c.utf8.text walk inv.walk in
+    let known : IsExtendedBy (seen_cluster view t n p) c.args.first c.in-Some.columns × (c.in-Some.columns ≤ 2 * (p - n)) = rw c.in-Some.is at inv.known in
     let first : seen_clusters view t n ≡ seen_cluster view t n p ∷ seen_clusters view t p = elim c.match-next_seen.branch [
       | in_default-Some+then-ends_before w ↦ (
           let next : IsSeenNext view t here w.in_default-Some.next = rw w.in_default-Some.is-1 at more.next in
@@ -95,10 +104,10 @@ returns-then-marks c =
           let none : after t here.position ≡ [] = rw is at more.next in
           cluster-is_last inv.so_far (after-none view t c.utf8.text p here.position more.ordered here_begin (walk_boundary t c.utf8.text here more.walk) more.left_out ∙ ap (seen view) none ∙ seen-nil view))
     ] in
-    (inv.walk, inv.so_far.ahead, first, c.char_width-width.ensures.value ∙ sym (inv.columns c.if-marks.true), omega (arith, c.char_width-width.ensures.bound, c.requires.first.size, inv.ordered), inv.tight)
+    (inv.walk, inv.so_far.ahead, first, extended-width (seen_cluster view t n p) c.args.first c.in-Some.columns known.0, known.1, inv.tight)
 
-pub returns-else-marks : goal.returns-else-marks
-returns-else-marks c =
+pub returns-in-None : goal.returns-in-None
+returns-in-None c =
     let t = c.args.text.now in
     let view = c.args.view in
     let inv = c.cluster.invariant in
