@@ -266,7 +266,7 @@ fn columns_that_fit(text: &str, start: usize, end: usize, most: usize) -> Option
         IsPlainFront (slice_range text.now start end) (end - start) columns) }
     ensures most { IfSome result (λ (columns, spare). columns + spare ≤ most) }
 {
-    let (len, columns) = plain_part(text, start, end);
+    let (len, columns) = plain_part(text, start, end, printable_near(text, start, end));
     let spare = if end < text.len() { 1 } else { 0 };
     if len < end - start || most < columns || most - columns < spare {
         return None;
@@ -274,15 +274,18 @@ fn columns_that_fit(text: &str, start: usize, end: usize, most: usize) -> Option
     Some((columns, spare))
 }
 
-/// How many bytes of such characters a run begins with, and their columns.
+/// How many bytes of such characters a run begins with, and their columns. `printable` is what
+/// `printable_near` returns for the run.
 #[inline(always)]
-pub(crate) fn plain_part(text: &str, start: usize, end: usize) -> (usize, usize)
+pub(crate) fn plain_part(text: &str, start: usize, end: usize, printable: usize) -> (usize, usize)
     requires ordered { start ≤ end }
     requires start { IsCharBoundary text.now start }
     requires end { IsCharBoundary text.now end }
+    requires printable { min printable (end - start)
+        ≡ prefix_len is_printable_byte (slice_range text.now start end) }
     ensures { IsPlainFront (slice_range text.now start end) result.0 result.1 }
 {
-    let ascii = printable_near(text, start, end).min(end - start);
+    let ascii = printable.min(end - start);
     if ascii == end - start || text.as_bytes()[start + ascii] < 0x80 {
         return (ascii, ascii);
     }

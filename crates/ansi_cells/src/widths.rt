@@ -1,29 +1,48 @@
 //! The width of a text.
 ghost use Rattle.std.specs.Prelude.{◌≡◌, MatchOption};
+ghost use Rattle.std.specs.List.{prefix_len};
+ghost use Rattle.ansi_safe.specs.Safe.{is_printable_byte};
 ghost use Rattle.ansi_clusters.specs.declared.views.View.{View};
 ghost use Rattle.ansi_clusters.specs.Columns.{columns};
 ghost use Rattle.ansi_clusters.specs.Views.{seen_text};
 ghost use Rattle.ansi_clusters.specs.Walks.{IsWalkIn, IsCounted, IsCountedTo};
 
-use crate::plain_cells::plain_part;
+use crate::plain_cells::{plain_part, printable_near};
 use ansi_clusters::views::View;
 use ansi_clusters::walks::Walk;
 use ansi_items::ansitok::{Kind, Scanner};
+use ansi_safe::printable::printable_len;
 
 /// The columns of what is seen of a text.
 pub fn width(text: &str, view: View) -> usize
     ensures { result ≡ columns (seen_text view text.now) }
 {
-    match plain_runs(text) {
+    let printable = printable_front(text);
+    if printable == text.len() {
+        return printable;
+    }
+    match plain_runs(text, printable) {
         (columns, None) => columns,
         (columns, Some(next)) => walked_width(text, view, next, columns),
     }
 }
 
+/// How many bytes of printable ASCII a text begins with.
+#[inline(always)]
+fn printable_front(text: &str) -> usize
+    ensures { result ≡ prefix_len is_printable_byte text.now }
+{
+    match text.as_bytes() {
+        [0x20..=0x7E, ..] => printable_len(text.as_bytes()),
+        _ => 0,
+    }
+}
+
 /// The columns of the characters of a text that are clusters by themselves beside each other, up to another
 /// one, and the walk before the last of them. If the other one may join a character before a sequence, they
-/// are none, and the walk is at the beginning.
-fn plain_runs(text: &str) -> (usize, Option<Walk>)
+/// are none, and the walk is at the beginning. The text begins with `printable` bytes of printable ASCII.
+fn plain_runs(text: &str, printable: usize) -> (usize, Option<Walk>)
+    requires { printable ≡ prefix_len is_printable_byte text.now }
     ensures { MatchOption result.1 ((view : View) → result.0 ≡ columns (seen_text view text.now))
         (IsCounted text.now result.0) }
 {
@@ -33,7 +52,12 @@ fn plain_runs(text: &str) -> (usize, Option<Walk>)
         if item.kind != Kind::Text {
             continue;
         }
-        let (len, more) = plain_part(text, item.start, item.end);
+        let near = if item.start == 0 {
+            printable
+        } else {
+            printable_near(text, item.start, item.end)
+        };
+        let (len, more) = plain_part(text, item.start, item.end, near);
         if len < item.end - item.start {
             let run = Walk::at_run(&item, position);
             if len == 0 {

@@ -1,5 +1,8 @@
-use Rattle.std.proofs.Common.{◌≡◌, ◌-◌, ◌<◌, ◌^◌, not, length, slice_range, refl, sym, ◌∙◌, ap, subst, arith, rules}
+use Rattle.std.proofs.Common.{◌≡◌, ◌-◌, ◌<◌, ◌^◌, min, not, length, take, drop, slice_range, refl, sym, ◌∙◌, ap, subst, arith, rules}
+use Rattle.std.specs.List.{prefix_len}
 use Rattle.std.proofs.lemmas.Bool.{not-false}
+use Rattle.ansi_safe.proofs.FrontLemmas.{prefix_len-take}
+use Rattle.ansi_clusters.proofs.AsciiLemmas.{is_printable}
 use denote.Enum.Bare.{sameb}
 use Rattle.ansi_items.specs.contracts.ansitok.Kind.{the_type}
 use Rattle.ansi_items.specs.declared.ansitok.Kind.TheVariants.{Text as TextKind}
@@ -14,7 +17,7 @@ use Rattle.ansi_clusters.specs.Walks.{IsCountedTo, walk_at_run}
 use Rattle.ansi_clusters.proofs.ColumnLemmas.{counted-begin}
 use Rattle.ansi_clusters.proofs.PrintableLemmas.{counted-clusters}
 use Rattle.ansi_cells.proofs.PlainTextLemmas.{ArePlainSoFar, plain-begin, plain-run, plain-mark, plain-within, plain-columns, run-utf8, walk-plain, counted-ending, counted-run, counted-first}
-use Rattle.ansi_cells.proofs.widths.plain_runs.Goals.{else-position-gt0-via-then-position-gt0+else-not-ends_ascii, else-position-gt0-via-else-position-gt0}
+use Rattle.ansi_cells.proofs.widths.plain_runs.Goals.{then-item-eq0, else-item-eq0, else-position-gt0-via-then-position-gt0+else-not-ends_ascii, else-position-gt0-via-else-position-gt0}
 use Rattle.ansi_cells.proofs.widths.plain_runs.Goals as goal
 
 pub loop-item-init : goal.loop-item-init
@@ -53,6 +56,18 @@ loop-item-preserved c =
       text = gives.text ∙ inv.text;
       so_far = plain-run inv.so_far (over_text gives inv.text refl kind) (run-utf8 (walk_at_run c.loop-item.position item.start item.end) c.utf8.text inv.so_far gives inv.text kind refl) front whole refl refl;
     }
+
+-- the first run begins with what the text begins with
+pub plain_part-len-requires-clause-printable : goal.plain_part-len-requires-clause-printable
+plain_part-len-requires-clause-printable c =
+    let t = c.args.text.now in
+    let item = c.in-Some.item in
+    elim c.if-item-eq0.branch [
+      | then-item-eq0 w ↦ (
+          let front : slice_range t item.start item.end ≡ take (item.end - item.start) t = ap (λ n. take (item.end - item.start) (drop n t)) w.if-item-eq0.true in
+          omega (arith, w.near-is, c.requires, ap (prefix_len is_printable) front, prefix_len-take is_printable (item.end - item.start) t))
+      | else-item-eq0 w ↦ ap (λ n. min n (item.end - item.start)) w.near-is ∙ w.printable_near-near.ensures
+    ]
 
 pub overflow_add-position : goal.overflow_add-position
 overflow_add-position c =
