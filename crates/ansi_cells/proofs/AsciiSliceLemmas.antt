@@ -1,21 +1,22 @@
 -- Slices of texts of cells of ASCII: each byte of the plain text has one column, so an edge is a place, and one pass finds the offsets of both and the pens there.
 use Rattle.std.proofs.Common.{◌≡◌, ◌≢◌, ℕ, zero, suc, ◌+◌, ◌-◌, ◌<◌, ◌≤◌, ◌==◌, ◌⊎◌, inl, inr, Bool, true, false, not, ◌&&◌, ◌||◌, List, [], ◌∷◌, ◌++◌, length, map, take, drop, slice_range, nat_le, nat_lt, if◌then◌else◌, Option, Some, None, IsTrue, refl, sym, ◌∙◌, ap, ap₂, subst, arith, length-append}
 use Rattle.std.specs.List.{list_all}
-use Rattle.std.specs.Str.{IsAscii, IsCharBoundary}
+use Rattle.std.specs.Str.{IsAscii, IsUtf8, IsCharBoundary}
 use Rattle.std.proofs.lemmas.Bool.{and_parts, and_from, or_right, cases_lt, le-leb, lt-leb, lt-ltb, le-ltb, leb-true, ltb-true, eq-eqb, ne_eqb}
 use Rattle.std.proofs.lemmas.Bool.Decides.{nat_tests}
 use Rattle.std.proofs.lemmas.List.{take_at, drop_at, length-take, length-drop, length-take-le}
-use Rattle.std.proofs.lemmas.Str.{chars-IsAscii, IsAscii-take, IsAscii-drop, IsAscii-append, IsUtf8-from_ascii, IsCharBoundary-from_ascii}
 use Rattle.std.proofs.lemmas.Str.Ascii.{IsAscii-nil}
-use Rattle.ansi_items.specs.declared.ansitok.Kind.{Kind}
-use Rattle.ansi_items.specs.declared.ansitok.Kind.TheVariants.{Text as TextKind, Sgr, Other, Lone}
-use Rattle.ansi_items.specs.declared.ansitok.Item.{Item}
-use Rattle.ansi_items.specs.Pieces.{Piece, Text, LoneEscape, spelling, pieces_of}
-use Rattle.ansi_items.specs.Plain.{plain, plain_of, marks, marks_up_to}
-use Rattle.ansi_items.specs.Scans.{Scan, GivesItem, pieces_left, piece_of_kind}
-use Rattle.ansi_items.proofs.PlainLemmas.{length-plain}
 use Rattle.ansi_items.proofs.JoinLemmas.{spelled, spelled-pieces_of}
-use Rattle.ansi_items.proofs.StepLemmas.{is_mark, BeginsWithMark}
+use Rattle.std.proofs.lemmas.List.Folds.{list_all-append}
+use Rattle.std.proofs.lemmas.Str.{chars-IsAscii, IsAscii-take, IsAscii-drop, IsAscii-append, IsUtf8-from_ascii, IsCharBoundary-from_ascii}
+use Rattle.ansi_items.specs.declared.ansitok.Kind.{Kind}
+use Rattle.ansi_items.specs.declared.ansitok.Kind.TheVariants.{Sgr}
+use Rattle.ansi_items.specs.declared.ansitok.Item.{Item}
+use Rattle.ansi_items.specs.Pieces.{Piece, Text, Sequence, LoneEscape, spelling, pieces_of}
+use Rattle.ansi_items.specs.Plain.{plain, plain_bytes, plain_of, marks, marks_up_to}
+use Rattle.ansi_items.specs.Scans.{Scan, GivesItem, pieces_left, piece_of}
+use Rattle.ansi_items.proofs.PlainLemmas.{length-plain}
+use Rattle.ansi_items.proofs.StepLemmas.{is_mark, BeginsWithMark, gives_rest}
 use Rattle.ansi_style.specs.declared.state.rendition.Rendition.{Rendition}
 use Rattle.ansi_style.specs.Rendition.{plain_style, has_any}
 use Rattle.ansi_style.specs.Sgr.{apply}
@@ -32,17 +33,21 @@ use Rattle.ansi_search.proofs.SliceLemmas.{list_all-parts}
 use Rattle.ansi_slice.specs.Cut.{interleaved}
 use Rattle.ansi_slice.specs.Kept.{kept}
 use Rattle.ansi_split.specs.Parts.{marks_past}
-use Rattle.ansi_safe.specs.Safe.{is_printing}
+use Rattle.ansi_safe.specs.Cells.{cell}
+use Rattle.ansi_safe.specs.Safe.{is_printing, may_stay}
+use Rattle.ansi_safe.specs.declared.policy.Links.TheVariants.{Keep}
 use Rattle.ansi_safe.specs.Links.{opens_link, link_after, link_at, link_end, link_of, pen_close}
+use Rattle.ansi_safe.proofs.CellTextLemmas.{cell-stays}
 use Rattle.ansi_safe.proofs.FrontLemmas.{printable-ascii}
 use Rattle.ansi_safe.proofs.LinkLemmas.{is_link-sgr, link_of-fold}
 use Rattle.ansi_cells.specs.declared.slices.Parts.{Parts}
 use Rattle.ansi_clusters.specs.Columns.{clusters, cluster_width, columns_of, columns, bytes_of}
 use Rattle.ansi_clusters.specs.Lines.{blanks}
 use Rattle.ansi_clusters.specs.Walks.{clusters_after}
-use Rattle.ansi_cells.specs.Slices.{ended, begun, has_no_column, column_place, bytes_from, bytes_up_to, blanks_before, blanks_after, opened_at, pen_open, slice_opening, slice_middle, slice_closing, sliced_up_to, is_pen_plain, AreParts, AreAsciiParts, IsAsciiCell}
+use Rattle.ansi_cells.specs.Slices.{ended, begun, has_no_column, column_place, bytes_from, bytes_up_to, blanks_before, blanks_after, opened_at, pen_open, slice_opening, slice_middle, slice_closing, sliced_up_to, is_pen_plain, AreParts, AreAsciiParts, is_ascii_piece, IsShownCell}
 use Rattle.ansi_clusters.proofs.AsciiLemmas.{is_printable, columns-printable, width-single}
 use Rattle.ansi_cells.proofs.EdgeLemmas.{ended-pass, begun-pass}
+use Rattle.ansi_cells.proofs.PlainCellLemmas.{printable-piece}
 use Rattle.ansi_clusters.proofs.PlaceLemmas.{marks-before}
 use Rattle.ansi_cells.proofs.ShownLawLemmas.{clusters-printable, bytes_of-clusters}
 use Rattle.ansi_cells.proofs.SliceLemmas.{IsOpenedAt, text-ordered, kept-text, good-text, length-parts, link-within, offset_of-end}
@@ -90,19 +95,6 @@ pub pen-other : {t w : List ℕ} {place : ℕ} {style : Rendition} {link next : 
 pen-other {t} {w} {place} {style} {link} {ps = ps} so_far mark kind next_is =
     subst (λ l. IsPenSoFar t place style l ps) (sym next_is) (subst (λ s. IsPenSoFar t place s (link_after link w) ps) (apply-no_sgr style w (mark.no_sgr kind)) (pen-sequence so_far mark))
 
--- over a lone escape
-pub pen-lone : {t : List ℕ} {place : ℕ} {style : Rendition} {link : List ℕ} {old new : Scan} {item : Item} → IsPenSoFar t place style link (pieces_left old) → GivesItem old item new → item.kind ≢ TextKind → item.kind ≢ Sgr → item.kind ≢ Other
-    → IsPenSoFar t place style link (pieces_left new)
-pen-lone {t} {place} {style} {link} {old} {new} {item} so_far gives no_text no_sgr no_other =
-    by_kind item.kind (slice_range old.text item.start item.end) no_text no_sgr no_other (subst (IsPenSoFar t place style link) gives.piece so_far)
-  where
-    by_kind : (k : Kind) (w : List ℕ) → k ≢ TextKind → k ≢ Sgr → k ≢ Other → IsPenSoFar t place style link (piece_of_kind k w ∷ pieces_left new) → IsPenSoFar t place style link (pieces_left new)
-    by_kind TextKind w no_text no_sgr no_other here = absurd (no_text refl)
-    by_kind Sgr w no_text no_sgr no_other here = absurd (no_sgr refl)
-    by_kind Other w no_text no_sgr no_other here = absurd (no_other refl)
-    by_kind Lone w no_text no_sgr no_other here =
-        subst (λ s. IsPenSoFar t place s link (pieces_left new)) (apply-no_sgr style (spelling LoneEscape) refl) (pen-mark here refl)
-
 -- at a byte of the run that is next
 pub pen-here : {t w : List ℕ} {place : ℕ} {style : Rendition} {link : List ℕ} {old ps : List Piece} (n : ℕ) → IsPenSoFar t place style link old → old ≡ Text w ∷ ps → n < length w → (style ≡ style_at t (place + n)) × (link ≡ link_at t (place + n))
 pen-here {t} {w} {place} {style} {link} {ps = ps} n so_far first last =
@@ -118,25 +110,39 @@ pen-end {t} {place} {style} {link} so_far none =
 
 -- ---- the plain text
 
-ascii-plain : (ps : List Piece) → IsAscii (spelled ps) → IsAscii (plain_of ps)
-ascii-plain [] ascii = IsAscii-nil
-ascii-plain (p ∷ ps) ascii =
-    let first : IsAscii (spelling p) = subst IsAscii (take_at (spelling p) (spelled ps) (length (spelling p)) refl) (IsAscii-take (spelling p ++ spelled ps) (length (spelling p)) ascii) in
-    let rest : IsAscii (spelled ps) = subst IsAscii (drop_at (spelling p) (spelled ps) (length (spelling p)) refl) (IsAscii-drop (spelling p ++ spelled ps) (length (spelling p)) ascii) in
-    by p first (ascii-plain ps rest)
+-- pieces that stay pass a test that printable ASCII and sequences that may stay pass
+pass : (test : Piece → Bool) → ((w : List ℕ) → list_all is_printable w ≡ true → test (Text w) ≡ true) → ((w : List ℕ) → may_stay Keep (Sequence w) ≡ true → test (Sequence w) ≡ true)
+    → (ps : List Piece) → list_all is_ascii_piece ps ≡ true → list_all test ps ≡ true
+pass test text sequence [] all = refl
+pass test text sequence (p ∷ ps) all =
+    let both = and_parts (is_ascii_piece p) (list_all is_ascii_piece ps) all in
+    and_from _ _ (by p both.0) (pass test text sequence ps both.1)
   where
-    by : (p : Piece) → IsAscii (spelling p) → IsAscii (plain_of ps) → IsAscii (plain_of (p ∷ ps))
-    by (Text w) first rest = IsAscii-append w (plain_of ps) first rest
-    by p first rest = rest
+    by : (p : Piece) → is_ascii_piece p ≡ true → test p ≡ true
+    by (Text w) is = text w is
+    by (Sequence w) is = sequence w is
+    by LoneEscape is = absurd (cc is)
 
-printable-byte : (c : ℕ) → c < 128 → is_printing c ≡ true → is_printable c ≡ true
-printable-byte c ascii prints = grind (arith, nat_tests)
+-- so a text of them stays in a cell
+pub ascii-stays : (t : List ℕ) → IsUtf8 t → list_all is_ascii_piece (pieces_of t) ≡ true → cell t ≡ t
+ascii-stays t utf8 all = cell-stays t utf8 (pass _ printable-piece (λ w stays. stays) (pieces_of t) all)
 
-printable-all : (x : List ℕ) → IsAscii x → list_all is_printing x ≡ true → list_all is_printable x ≡ true
-printable-all [] ascii prints = refl
-printable-all (c ∷ x) ascii prints =
-    let both = and_parts (is_printing c) (list_all is_printing x) prints in
-    and_from _ _ (printable-byte c (ascii 0) both.0) (printable-all x (λ i. ascii (suc i)) both.1)
+-- and its plain text is printable ASCII
+plain-printable : (ps : List Piece) → list_all is_ascii_piece ps ≡ true → list_all is_printable (plain_of ps) ≡ true
+plain-printable [] all = refl
+plain-printable (p ∷ ps) all =
+    let both = and_parts (is_ascii_piece p) (list_all is_ascii_piece ps) all in
+    list_all-append is_printable (plain_bytes p) (plain_of ps) ∙ and_from _ _ (by p both.0) (plain-printable ps both.1)
+  where
+    by : (p : Piece) → is_ascii_piece p ≡ true → list_all is_printable (plain_bytes p) ≡ true
+    by (Text w) is = is
+    by (Sequence w) is = refl
+    by LoneEscape is = refl
+
+-- if the first piece stays, the others decide
+pub stays-past : {t : List ℕ} {stays : Bool} {old new : Scan} {item : Item} → stays ≡ list_all is_ascii_piece (pieces_left old) → GivesItem old item new → old.text ≡ t → is_ascii_piece (piece_of t item) ≡ true → stays ≡ list_all is_ascii_piece (pieces_left new)
+stays-past {new = new} {item} decides gives same first =
+    decides ∙ ap (list_all is_ascii_piece) gives.piece ∙ ap (λ c. c && list_all is_ascii_piece (pieces_left new)) (ap (λ u. is_ascii_piece (piece_of u item)) same ∙ first)
 
 -- the clusters of printable ASCII
 
@@ -215,10 +221,57 @@ end-of x all a b e here ordered columns_x place = elim place [
       )
 ]
 
+-- a text of a cell of ASCII
+pub record IsAsciiCell (t : List ℕ) : Type 0 where
+  pub ascii : IsAscii t
+  pub stay : list_all is_ascii_piece (pieces_of t) ≡ true
+
+-- an item and what follows it stay
+pub ascii-cell : {t rest : List ℕ} {old new : Scan} {item : Item} → IsAscii t → list_all is_ascii_piece (pieces_of t) ≡ list_all is_ascii_piece (pieces_left new) → GivesItem old item new → old.text ≡ t → rest ≡ drop item.end t → list_all is_ascii_piece (pieces_of rest) ≡ true
+    → IsAsciiCell t
+ascii-cell ascii decides gives same rest_is rest = record { ascii = ascii; stay = decides ∙ ap (list_all is_ascii_piece) (sym (gives_rest gives same rest_is)) ∙ rest }
+
+ascii-plain : (ps : List Piece) → IsAscii (spelled ps) → IsAscii (plain_of ps)
+ascii-plain [] low = IsAscii-nil
+ascii-plain (p ∷ ps) low =
+    let first : IsAscii (spelling p) = subst IsAscii (take_at (spelling p) (spelled ps) (length (spelling p)) refl) (IsAscii-take (spelling p ++ spelled ps) (length (spelling p)) low) in
+    let rest : IsAscii (spelled ps) = subst IsAscii (drop_at (spelling p) (spelled ps) (length (spelling p)) refl) (IsAscii-drop (spelling p ++ spelled ps) (length (spelling p)) low) in
+    by p first (ascii-plain ps rest)
+  where
+    by : (p : Piece) → IsAscii (spelling p) → IsAscii (plain_of ps) → IsAscii (plain_of (p ∷ ps))
+    by (Text w) first rest = IsAscii-append w (plain_of ps) first rest
+    by p first rest = rest
+
+printable-byte : (c : ℕ) → c < 128 → is_printing c ≡ true → is_printable c ≡ true
+printable-byte c low prints = grind (arith, nat_tests)
+
+printable-all : (x : List ℕ) → IsAscii x → list_all is_printing x ≡ true → list_all is_printable x ≡ true
+printable-all [] low prints = refl
+printable-all (c ∷ x) low prints =
+    let both = and_parts (is_printing c) (list_all is_printing x) prints in
+    and_from _ _ (printable-byte c (low 0) both.0) (printable-all x (λ i. low (suc i)) both.1)
+
+-- a text of a cell, of ASCII
+known : (ps : List Piece) → list_all is_printable (plain_of ps) ≡ true → list_all (may_stay Keep) ps ≡ true → list_all is_ascii_piece ps ≡ true
+known [] prints stays = refl
+known (p ∷ ps) prints stays =
+    let both = and_parts (may_stay Keep p) (list_all (may_stay Keep) ps) stays in
+    let parts = and_parts _ _ (sym (list_all-append is_printable (plain_bytes p) (plain_of ps)) ∙ prints) in
+    and_from _ _ (by p parts.0 both.0) (known ps parts.1 both.1)
+  where
+    by : (p : Piece) → list_all is_printable (plain_bytes p) ≡ true → may_stay Keep p ≡ true → is_ascii_piece p ≡ true
+    by (Text w) prints stays = prints
+    by (Sequence w) prints stays = stays
+    by LoneEscape prints stays = stays
+
+pub ascii-known : {t : List ℕ} → IsAscii t → IsShownCell t → IsAsciiCell t
+ascii-known {t} low shown =
+    let ascii_x : IsAscii (plain t) = ascii-plain (pieces_of t) (subst IsAscii (sym (spelled-pieces_of t)) low) in
+    let prints = printable-all (plain t) ascii_x (sym (ap (list_all is_printing) (chars-IsAscii (plain t) ascii_x)) ∙ shown.prints) in
+    record { ascii = low; stay = known (pieces_of t) prints shown.safe }
+
 cell-printable : {t : List ℕ} → IsAsciiCell t → list_all is_printable (plain t) ≡ true
-cell-printable {t} is =
-    let ascii_x : IsAscii (plain t) = ascii-plain (pieces_of t) (subst IsAscii (sym (spelled-pieces_of t)) is.ascii) in
-    printable-all (plain t) ascii_x (sym (ap (list_all is_printing) (chars-IsAscii (plain t) ascii_x)) ∙ is.prints)
+cell-printable {t} is = plain-printable (pieces_of t) is.stay
 
 -- ---- where a slice begins and ends
 
@@ -423,7 +476,7 @@ module _ {t w : List ℕ} {a b from place passed at : ℕ} {opened style : Rendi
   pub inside-here : a < b → b - place < length w → (a < length (plain t)) × (a < place + length w)
   inside-here ordered last = (omega (arith, ordered, last, run-within, so_far.before_end), omega (arith, ordered, last, so_far.before_end))
 
--- over a mark, or a lone escape
+-- over a mark
 pub slice-mark : {t w : List ℕ} {a b from place passed at : ℕ} {opened style next : Rendition} {opened_link link next_link : List ℕ} {kind : Kind} {old ps : List Piece} → IsSliceSoFar t a b from place passed opened opened_link style link old
     → IsOverMark kind t w passed at old ps → IsPenSoFar t place next next_link ps → IsSliceSoFar t a b from place at opened opened_link next next_link ps
 slice-mark so_far over pen = record { before_end = so_far.before_end; passed_is = passed-mark so_far.passed_is over; pen = pen; found = so_far.found }

@@ -1,8 +1,8 @@
 -- A slice of a text by columns: where it begins and ends, and what is written.
-use Rattle.std.specs.Prelude.{◌≡◌, ℕ, ◌+◌, ◌-◌, ◌≤◌, ◌==◌, ◌⊎◌, min, Bool, true, chars, not, ◌&&◌, ◌||◌, List, [], ◌∷◌, ◌++◌, length, nat_lt, nat_le, Option, Some, None, unwrap_or, if◌then◌else◌, IsTrue, IsFalse}
+use Rattle.std.specs.Prelude.{◌≡◌, ℕ, ◌+◌, ◌-◌, ◌≤◌, ◌==◌, ◌⊎◌, min, Bool, true, chars, not, ◌&&◌, ◌||◌, List, [], ◌∷◌, ◌++◌, length, nat_lt, nat_le, Option, Some, None, unwrap_or, if◌then◌else◌, IsTrue, IsFalse, ⊤}
 use Rattle.std.specs.Cow.{cow_str_bytes, IsBorrowedStr}
 use Rattle.std.specs.List.{list_all}
-use Rattle.std.specs.Str.{IsAscii}
+use Rattle.ansi_items.specs.Pieces.{Piece, Text}
 use Rattle.ansi_items.specs.Plain.{plain, marks, marks_up_to}
 use Rattle.ansi_style.specs.Rendition.{has_any}
 use Rattle.ansi_style.specs.States.{rendition_of}
@@ -12,11 +12,15 @@ use Rattle.ansi_search.specs.Positions.{no_character_goes_on}
 use Rattle.ansi_slice.specs.Cut.{interleaved}
 use Rattle.ansi_slice.specs.Kept.{kept}
 use Rattle.ansi_split.specs.Parts.{marks_past}
+use Rattle.ansi_safe.specs.Cells.{cell}
 use Rattle.ansi_safe.specs.Links.{link_at, link_end, longest_link_end, pen_close}
-use Rattle.ansi_safe.specs.Safe.{is_printing}
+use Rattle.ansi_safe.specs.Safe.{is_printable_byte, is_printing, is_safe, may_stay}
+use Rattle.ansi_safe.specs.declared.policy.Links.TheVariants.{Keep}
 use Rattle.ansi_clusters.specs.Columns.{clusters, cluster_width, columns, columns_of, bytes_of}
 use Rattle.ansi_clusters.specs.Lines.{blanks}
 use Rattle.ansi_clusters.specs.Walks.{clusters_from, IsWalk}
+use Rattle.ansi_cells.specs.declared.slices.AsciiSlice.{AsciiSlice}
+use Rattle.ansi_cells.specs.declared.slices.AsciiSlice.TheVariants.{Unknown, Nothing, Parts as Found}
 use Rattle.ansi_cells.specs.declared.slices.Edge.{Edge}
 use Rattle.ansi_cells.specs.declared.slices.Parts.{Parts}
 use Rattle.ansi_cells.specs.declared.slices.Sliced.{Sliced}
@@ -129,10 +133,7 @@ abbrev pub IsLentSlice : {A : Type 0} → Sliced A → Type 0
 IsLentSlice (Joined c) = IsBorrowedStr c
 IsLentSlice (Stretched s) = ⊥
 
--- a text of a cell of ASCII; no public contract cites what follows
-pub record IsAsciiCell (t : List ℕ) : Type 0 where
-  pub ascii : IsAscii t
-  pub prints : list_all is_printing (chars (plain t)) ≡ true
+-- No public contract cites what follows.
 
 -- the edge that is n columns after the place `here` of t
 pub record IsEdge (t : List ℕ) (here n : ℕ) (edge : Edge) : Type 0 where
@@ -187,3 +188,19 @@ pub record AreAsciiParts (t : List ℕ) (a b : ℕ) (parts : Parts) : Type 0 whe
   pub parts_are : AreParts t a b parts
   pub none_before : parts.before ≡ 0
   pub none_after : parts.after ≡ 0
+
+-- a text of a cell: its characters print, and its sequences may stay
+pub record IsShownCell (t : List ℕ) : Type 0 where
+  pub prints : list_all is_printing (chars (plain t)) ≡ true
+  pub safe : IsTrue (is_safe Keep t)
+
+-- a piece of a text of ASCII stays as it is in a cell: printable ASCII, an SGR, and a clean link
+abbrev pub is_ascii_piece : Piece → Bool
+is_ascii_piece (Text w) = list_all is_printable_byte w
+is_ascii_piece p = may_stay Keep p
+
+-- What a pass over a text of ASCII finds: nothing, or that the text stays as it is in a cell, and the parts of its slice.
+abbrev pub IsAsciiSlice : List ℕ → ℕ → ℕ → AsciiSlice → Type 0
+IsAsciiSlice t a b Unknown = ⊤
+IsAsciiSlice t a b Nothing = (cell t ≡ t) × IsTrue (has_no_column (plain t) a b)
+IsAsciiSlice t a b (Found parts) = (cell t ≡ t) × AreAsciiParts t a b parts

@@ -1,22 +1,25 @@
 //! Slices of a text by columns, ready for display. A slice opens the style and the link that are
 //! open where it begins, and closes what is open where it ends.
-ghost use Rattle.std.specs.Prelude.{◌≡◌, ◌≤◌, ◌<◌, ◌↔◌, ◌+◌, ◌^◌, ◌==◌, ◌&&◌, ◌++◌, [], true, length};
-ghost use Rattle.std.specs.Prelude.{chars, nat_lt, nat_le};
+ghost use Rattle.std.specs.Prelude.{◌≡◌, ◌≤◌, ◌<◌, ◌↔◌, ◌+◌, ◌^◌, ◌==◌, ◌&&◌, ◌++◌, length};
+ghost use Rattle.std.specs.Prelude.{nat_lt, nat_le};
 ghost use Rattle.std.specs.Prelude.{if◌then◌else◌, IsTrue, IsOk, IfOk, IfSome, MatchOption, OnOk};
 ghost use Rattle.std.specs.Prelude.{string_bytes};
 ghost use Rattle.std.specs.Cow.{cow_str_bytes, IsBorrowedStr};
 ghost use Rattle.std.specs.List.{list_all};
+ghost use Rattle.std.specs.Str.{IsAscii, IsCharBoundary};
+ghost use Rattle.ansi_items.specs.Pieces.{pieces_of};
+ghost use Rattle.ansi_items.specs.Scans.{kind_of, piece_of};
 ghost use Rattle.ansi_items.specs.Plain.{plain, is_whole};
 ghost use Rattle.ansi_style.specs.Written.{longest_start_and_close};
 ghost use Rattle.ansi_safe.specs.Cells.{cell};
 ghost use Rattle.ansi_safe.specs.Links.{longest_link_end, IsClosed};
-ghost use Rattle.ansi_safe.specs.Safe.{is_safe, is_printing};
+ghost use Rattle.ansi_safe.specs.Safe.{is_safe, is_clean_link};
 ghost use Rattle.ansi_safe.specs.declared.policy.Links.TheVariants.{Keep};
 ghost use Rattle.ansi_cells.specs.OneLine.{is_one_line};
 ghost use Rattle.ansi_clusters.specs.Columns.{columns_of};
 ghost use Rattle.ansi_cells.specs.Slices.{has_no_column, is_stretch, slice_blanks};
 ghost use Rattle.ansi_cells.specs.Slices.{is_sliced_stretch, sliced_blanks, sliced_up_to, sliced};
-ghost use Rattle.ansi_cells.specs.Slices.{AreParts, AreAsciiParts, IsAsciiCell, IsEdge, closed_at};
+ghost use Rattle.ansi_cells.specs.Slices.{AreParts, is_ascii_piece, IsAsciiSlice, IsShownCell, IsEdge, closed_at};
 ghost use Rattle.ansi_cells.specs.Slices.{sliced_bytes, IsLentSlice};
 ghost use Rattle.ansi_cells.specs.Screens.{screen, sliced_screen};
 ghost use Rattle.ansi_clusters.specs.Walks.{IsWalk, clusters_from};
@@ -25,12 +28,17 @@ use crate::plain_cells::{LONGEST, is_printable};
 use crate::shown::push_blanks;
 use ansi_clusters::views::View;
 use ansi_clusters::walks::{Run, Walk};
-use ansi_items::ansitok::{Kind, Scanner};
+use ansi_items::ESC;
+use ansi_items::ansitok::{Item, Kind, Scanner};
 use ansi_safe::cells::cell_of;
-use ansi_safe::links::{Ending, Pen, link_after, pen_after, pen_after_from, plain_pen};
+use ansi_safe::links::{
+    Ending, Pen, address_of, link_after, pen_after, pen_after_from, plain_pen, terminator_len,
+};
+use ansi_safe::printable::printable_len;
 use ansi_safe::utf8::is_ascii;
 use ansi_slice::slice::push_sequences;
 use ansi_style::styles;
+use memchr::memrchr;
 use std::alloc::{AllocError, Allocator};
 use std::borrow::CowStr;
 
@@ -87,41 +95,16 @@ pub fn slice_shown<'t, A: Allocator + Copy>(
         × IsTrue (is_sliced_stretch text.now start end) → IsOk result }
 {
     let end = end.unwrap_or(usize::MAX);
-    if let Some(stretch) = bare_stretch(text, start, end) {
-        return Ok(Sliced::Joined(CowStr::Borrowed(stretch)));
+    if let Some(slice) = ascii_slice(text, start, end, false) {
+        return Ok(slice);
     }
     match cell_of(alloc, text)? {
-        CowStr::Borrowed(cell) => slice_cell(alloc, cell, start, end),
+        CowStr::Borrowed(cell) => Ok(Sliced::Joined(slice_up_to(alloc, cell, start, end)?)),
         CowStr::Owned(cell) => {
             let slice = slice_cell(alloc, cell.as_str(), start, end)?.join(alloc)?;
             Ok(Sliced::Joined(CowStr::Owned(slice.into_owned(alloc)?)))
         }
     }
-}
-
-/// The columns of a text from `start` up to `end`, if the text is printable ASCII alone and not long. `None`
-/// says nothing.
-#[inline(always)]
-fn bare_stretch(text: &str, start: usize, end: usize) -> Option<&str>
-    ensures stays { IfSome result (λ _. cell text.now ≡ text.now) }
-    ensures bytes { IfSome result (λ s. s.now ≡ sliced_up_to text.now start end) }
-    ensures lent { IfSome result (λ _. IsTrue (is_stretch text.now start end)) }
-    ensures len { IfSome result (λ s. length s.now ≤ length text.now) }
-{
-    let len = text.len();
-    if LONGEST < len || !ends_printable(text) || !is_printable(text, 0, len) {
-        return None;
-    }
-    if end <= start || len <= start {
-        return Some("");
-    }
-    Some(&text[start..end.min(len)])
-}
-
-/// Whether a text ends with printable ASCII. Most texts that aren't bare don't.
-#[inline(always)]
-fn ends_printable(text: &str) -> bool {
-    matches!(text.as_bytes(), [.., 0x20..=0x7E])
 }
 
 /// A slice that is ready for display, and may be not joined yet. (Own.)
@@ -214,34 +197,116 @@ impl<'t> Stretch<'t> {
 
 /// The columns of a text of a cell, from `start` up to `end`. It is lent if nothing is written before
 /// and after its stretch of the text.
-#[inline(always)]
 fn slice_cell<'t, A: Allocator>(
     alloc: A,
     text: &'t str,
     start: usize,
     end: usize,
 ) -> Result<Sliced<'t, A>, AllocError>
-    requires { list_all is_printing (chars (plain text.now)) ≡ true }
+    requires { IsShownCell text.now }
     ensures bytes { IfOk result (λ s. sliced_bytes s ≡ sliced_up_to text.now start end) }
     ensures lent { IfOk result (λ s. IsLentSlice s ↔ IsTrue (is_stretch text.now start end)) }
     ensures len { IfOk result (λ s. length (sliced_bytes s) ≤ length text.now
         + slice_blanks (plain text.now) start end + longest_start_and_close + longest_link_end) }
     ensures takes_no_memory { IsTrue (is_stretch text.now start end) → IsOk result }
 {
-    if !is_ascii(text.as_bytes()) {
-        return Ok(Sliced::Joined(slice_up_to(alloc, text, start, end)?));
+    match ascii_slice(text, start, end, true) {
+        Some(slice) => Ok(slice),
+        None => Ok(Sliced::Joined(slice_up_to(alloc, text, start, end)?)),
     }
-    let Some(parts) = ascii_parts(text, start, end) else {
-        return Ok(Sliced::Joined(CowStr::Borrowed("")));
+}
+
+/// The same of a text of ASCII that stays as it is in a cell, as it is known to if it `is_cell`. `None` says
+/// nothing.
+#[inline(always)]
+fn ascii_slice<A: Allocator>(
+    text: &str,
+    start: usize,
+    end: usize,
+    is_cell: bool,
+) -> Option<Sliced<'_, A>>
+    requires { IsTrue is_cell → IsShownCell text.now }
+    ensures stays { IfSome result (λ _. cell text.now ≡ text.now) }
+    ensures bytes { IfSome result (λ s. sliced_bytes s ≡ sliced_up_to text.now start end) }
+    ensures lent { IfSome result (λ s. IsLentSlice s ↔ IsTrue (is_stretch text.now start end)) }
+    ensures len { IfSome result (λ s. length (sliced_bytes s) ≤ length text.now
+        + slice_blanks (plain text.now) start end + longest_start_and_close + longest_link_end) }
+{
+    if let Some(stretch) = bare_stretch(text, start, end) {
+        return Some(Sliced::Joined(CowStr::Borrowed(stretch)));
+    }
+    if !is_ascii(text.as_bytes()) || !is_cell && !seems_to_stay(text) {
+        return None;
+    }
+    let parts = match ascii_parts(text, start, end, is_cell) {
+        AsciiSlice::Unknown => return None,
+        AsciiSlice::Nothing => return Some(Sliced::Joined(CowStr::Borrowed(""))),
+        AsciiSlice::Parts(parts) => parts,
     };
     if parts.is_middle_alone() {
-        return Ok(Sliced::Joined(CowStr::Borrowed(parts.text)));
+        return Some(Sliced::Joined(CowStr::Borrowed(parts.text)));
     }
-    Ok(Sliced::Stretch(Stretch {
+    Some(Sliced::Stretch(Stretch {
         opened: parts.opened,
         text: parts.text,
         ending: parts.closed.ending(),
     }))
+}
+
+/// The columns of a text from `start` up to `end`, if the text is printable ASCII alone and not long. `None`
+/// says nothing.
+#[inline(always)]
+fn bare_stretch(text: &str, start: usize, end: usize) -> Option<&str>
+    ensures stays { IfSome result (λ _. cell text.now ≡ text.now) }
+    ensures bytes { IfSome result (λ s. s.now ≡ sliced_up_to text.now start end) }
+    ensures lent { IfSome result (λ _. IsTrue (is_stretch text.now start end)) }
+    ensures len { IfSome result (λ s. length s.now ≤ length text.now) }
+{
+    let len = text.len();
+    if LONGEST < len || !ends_printable(text) || !is_printable(text, 0, len) {
+        return None;
+    }
+    if end <= start || len <= start {
+        return Some("");
+    }
+    Some(&text[start..end.min(len)])
+}
+
+/// Whether a text ends with printable ASCII. Most texts that aren't bare don't.
+#[inline(always)]
+fn ends_printable(text: &str) -> bool {
+    matches!(text.as_bytes(), [.., 0x20..=0x7E])
+}
+
+/// Whether a text of ASCII seems to stay as it is in a cell: its first byte that isn't printable begins a sequence
+/// that does, and so does its last ESC. So most texts that don't stay aren't read up to where they don't.
+#[inline(always)]
+fn seems_to_stay(text: &str) -> bool {
+    let bytes = text.as_bytes();
+    let front = printable_len(bytes);
+    if front == bytes.len() {
+        return true;
+    }
+    if !begins_staying(&bytes[front..]) {
+        return false;
+    }
+    match memrchr(ESC, bytes) {
+        Some(last) => begins_staying(&bytes[last..]),
+        None => false,
+    }
+}
+
+/// Whether bytes seem to begin with an SGR, a link, or the end of one.
+#[inline(always)]
+fn begins_staying(bytes: &[u8]) -> bool {
+    match bytes {
+        [ESC, b'[', rest @ ..] => {
+            let len = rest.iter().take_while(|b| **b < 0x40).count();
+            matches!(rest.get(len), Some(b'm'))
+        }
+        [ESC, b'\\', ..] | [ESC, b']', b'8', ..] => true,
+        _ => false,
+    }
 }
 
 /// The columns of a text as it is, from `start` up to `end`. It is a borrow if nothing is written
@@ -330,14 +395,27 @@ fn parts_of(text: &str, start: usize, end: usize) -> Option<Parts<'_>>
     })
 }
 
-/// The same of a text of a cell of ASCII, in one pass: each byte of its plain text has one column.
-fn ascii_parts(text: &str, start: usize, end: usize) -> Option<Parts<'_>>
-    requires { IsAsciiCell text.now }
-    ensures { MatchOption result (IsTrue (has_no_column (plain text.now) start end))
-        (AreAsciiParts text.now start end) }
+/// What one pass over a text of ASCII finds.
+#[derive(Clone, Copy)]
+enum AsciiSlice<'t> {
+    /// It says nothing.
+    Unknown,
+    /// The text stays as it is in a cell, and the slice has no column.
+    Nothing,
+    /// The text stays as it is in a cell, and these are the parts of the slice.
+    Parts(Parts<'t>),
+}
+
+/// The parts of the slice of a text of ASCII from the column `start` up to `end`, if the text stays as it is
+/// in a cell, as it is known to if it `is_cell`. The text is read once, and each byte of its plain text has one
+/// column.
+fn ascii_parts(text: &str, start: usize, end: usize, is_cell: bool) -> AsciiSlice<'_>
+    requires ascii { IsAscii text.now }
+    requires cell { IsTrue is_cell → IsShownCell text.now }
+    ensures { IsAsciiSlice text.now start end result }
 {
     if end <= start {
-        return None;
+        return AsciiSlice::Unknown;
     }
     let mut style = styles::plain_style();
     let mut link = "";
@@ -345,6 +423,9 @@ fn ascii_parts(text: &str, start: usize, end: usize) -> Option<Parts<'_>>
     let mut from = 0;
     let mut place = 0;
     for item in Scanner::new(text) {
+        if !item_stays(text, &item) {
+            return AsciiSlice::Unknown;
+        }
         let piece = &text[item.start..item.end];
         if item.kind == Kind::Text {
             if is_in_run(start, place, piece.len()) {
@@ -352,21 +433,61 @@ fn ascii_parts(text: &str, start: usize, end: usize) -> Option<Parts<'_>>
                 opened = Pen { style, link };
             }
             if end - place < piece.len() {
+                if !is_cell && !items_stay(&text[item.end..]) {
+                    return AsciiSlice::Unknown;
+                }
                 let stretch = &text[from..item.start + (end - place)];
-                return Some(Parts::stretch(opened, stretch, Pen { style, link }));
+                return AsciiSlice::Parts(Parts::stretch(opened, stretch, Pen { style, link }));
             }
             place += piece.len();
         } else if item.kind == Kind::Sgr {
             styles::apply(&mut style, piece);
-        } else if item.kind == Kind::Other {
+        } else {
             link = link_after(link, piece);
         }
     }
     if place <= start {
-        return None;
+        return AsciiSlice::Nothing;
     }
     let stretch = &text[from..text.len()];
-    Some(Parts::stretch(opened, stretch, Pen { style, link }))
+    AsciiSlice::Parts(Parts::stretch(opened, stretch, Pen { style, link }))
+}
+
+/// Whether each item of a text is printable ASCII, or a sequence that stays as it is in a cell.
+fn items_stay(text: &str) -> bool
+    ensures { result ≡ list_all is_ascii_piece (pieces_of text.now) }
+{
+    for item in Scanner::new(text) {
+        if !item_stays(text, &item) {
+            return false;
+        }
+    }
+    true
+}
+
+/// Whether an item of the text is printable ASCII, or a sequence that stays as it is in a cell.
+#[inline(always)]
+fn item_stays(text: &str, item: &Item) -> bool
+    requires start { IsCharBoundary text.now item.now.start }
+    requires end { IsCharBoundary text.now item.now.end }
+    requires ordered { item.now.start ≤ item.now.end }
+    requires kind { item.now.kind ≡ kind_of (piece_of text.now item.now) }
+    ensures { result ≡ is_ascii_piece (piece_of text.now item.now) }
+{
+    match item.kind {
+        Kind::Text => is_printable(text, item.start, item.end),
+        Kind::Sgr => true,
+        Kind::Other => is_clean_link(&text[item.start..item.end]),
+        Kind::Lone => false,
+    }
+}
+
+/// Whether this is a link sequence whose bytes are printable ASCII.
+fn is_clean_link(sequence: &str) -> bool
+    ensures { result ≡ is_clean_link sequence.now }
+{
+    let bytes = sequence.as_bytes();
+    address_of(bytes).is_some() && is_printable(sequence, 2, bytes.len() - terminator_len(bytes))
 }
 
 /// Whether a column after the first one is in a run of ASCII that begins at the position `place`.
