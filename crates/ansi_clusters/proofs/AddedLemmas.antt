@@ -1,17 +1,17 @@
 -- Characters that add a known number of columns to a cluster that they extend.
-use Rattle.std.proofs.Common.{◌≡◌, ◌≢◌, ℕ, ◌+◌, ◌<◌, ◌≤◌, ◌⊎◌, inl, inr, ◌&&◌, ◌||◌, Bool, true, false, not, Option, Some, None, IfSome, unwrap_or, List, [], ◌∷◌, ◌++◌, refl, sym, ap, ap₂, subst, ◌∙◌, arith}
-use Rattle.std.proofs.lemmas.Bool.{and_parts}
+use Rattle.std.proofs.Common.{◌≡◌, ◌≢◌, ℕ, ◌+◌, ◌<◌, ◌≤◌, ◌⊎◌, inl, inr, ◌&&◌, ◌||◌, ◌==◌, Bool, true, false, not, Option, Some, None, IfSome, unwrap_or, List, [], ◌∷◌, ◌++◌, refl, sym, ap, ap₂, subst, ◌∙◌, arith}
+use Rattle.std.proofs.lemmas.Bool.{and_parts, eqb-true, not-true}
 use Rattle.std.proofs.lemmas.Bool.Decides.{nat_tests}
 use Rattle.ucd_table.specs.Rows.{Range, in_ranges}
 use Rattle.ucd_table.proofs.StepsLemmas.{rises_from}
 use Rattle.ucd_table.proofs.Stepped.{Stepped, zip_stepped, of_ranges}
 use Rattle.ucd_table.proofs.Facts.{Stepped-everywhere}
 use Rattle.ucd_table.proofs.Computing.{tables}
-use Rattle.ucd_breaks.specs.GraphemeClusterBreak.{grapheme_cluster_break}
+use Rattle.ucd_breaks.specs.GraphemeClusterBreak.{grapheme_cluster_break, grapheme_cluster_break_number}
 use Rattle.ucd_breaks.specs.declared.GraphemeClusterBreak.{GraphemeClusterBreak}
-use Rattle.ucd_breaks.specs.declared.GraphemeClusterBreak.TheVariants.{Control, Cr, Extend, L, Lf, Lv, Lvt, Prepend, RegionalIndicator, SpacingMark, T, V, Other, Zwj}
+use Rattle.ucd_breaks.specs.declared.GraphemeClusterBreak.TheVariants.{Extend, SpacingMark}
 use Rattle.ucd_breaks.proofs.Computing.{ucd_breaks}
-use Rattle.ucd_breaks.proofs.GraphemeClusterBreakLemmas.{grapheme_cluster_break_stepped}
+use Rattle.ucd_breaks.proofs.GraphemeClusterBreakLemmas.{grapheme_cluster_break_stepped, grapheme_cluster_break_number_injective}
 use Rattle.ucd_derived.specs.IndicConjunctBreak.{indic_conjunct_break}
 use Rattle.ucd_derived.specs.declared.IndicConjunctBreak.{IndicConjunctBreak}
 use Rattle.ucd_derived.specs.declared.IndicConjunctBreak.TheVariants as InCb
@@ -44,18 +44,21 @@ abbrev is_linker : IndicConjunctBreak → Bool
 is_linker InCb.Linker = true
 is_linker _ = false
 
+abbrev is_extend_value : GraphemeClusterBreak → Bool
+is_extend_value g = grapheme_cluster_break_number g == grapheme_cluster_break_number Extend
+
 -- those without a column
 abbrev zero_ranges : List Range
 zero_ranges = (0x300, 0x337) ∷ (0x339, 0x36F) ∷ (0xE31, 0xE31) ∷ (0xE34, 0xE3A) ∷ (0xE47, 0xE4E) ∷ []
 
 abbrev is_zero_extend : ℕ → Bool
-is_zero_extend c = (is_zero (kind c) && is_extend (grapheme_cluster_break c)) && (not (is_linker (indic_conjunct_break c)) && not (is_extended_pictographic c))
+is_zero_extend c = (is_zero (kind c) && is_extend_value (grapheme_cluster_break c)) && (not (is_linker (indic_conjunct_break c)) && not (is_extended_pictographic c))
 
 unfoldable zero_extend_stepped : Stepped is_zero_extend
 unfolding tables
 zero_extend_stepped =
-    zip_stepped ◌&&◌ (λ c. is_zero (kind c) && is_extend (grapheme_cluster_break c)) (λ c. not (is_linker (indic_conjunct_break c)) && not (is_extended_pictographic c))
-    (zip_stepped (λ k g. is_zero k && is_extend g) kind grapheme_cluster_break kind_stepped grapheme_cluster_break_stepped)
+    zip_stepped ◌&&◌ (λ c. is_zero (kind c) && is_extend_value (grapheme_cluster_break c)) (λ c. not (is_linker (indic_conjunct_break c)) && not (is_extended_pictographic c))
+    (zip_stepped (λ k g. is_zero k && is_extend_value g) kind grapheme_cluster_break kind_stepped grapheme_cluster_break_stepped)
     (zip_stepped (λ i p. not (is_linker i) && not p) indic_conjunct_break is_extended_pictographic indic_conjunct_break_stepped is_extended_pictographic_stepped)
 
 zero_extends : (c : ℕ) → (not (in_ranges zero_ranges c) || is_zero_extend c) ≡ true
@@ -83,10 +86,6 @@ added-cases : (c k : ℕ) → added_columns c ≡ Some k → ((in_ranges zero_ra
 unfolding in_ranges
 added-cases c k is = grind (arith, nat_tests, is)
 
-not_true : (b : Bool) → not b ≡ true → b ≡ false
-not_true true e = cc
-not_true false e = refl
-
 zero-kind : (c : ℕ) (k : Kind) → is_zero k ≡ true → of_kind false c k ≡ (0, plain)
 zero-kind c kinds.Zero is = refl
 zero-kind c kinds.Narrow is = absurd (cc is)
@@ -101,21 +100,8 @@ zero-kind c kinds.EmojiModifier is = absurd (cc is)
 zero-kind c kinds.Emoji is = absurd (cc is)
 zero-kind c kinds.Single is = absurd (cc is)
 
-extend-value : (g : GraphemeClusterBreak) → is_extend g ≡ true → g ≡ Extend
-extend-value Extend is = refl
-extend-value Control is = absurd (cc is)
-extend-value Cr is = absurd (cc is)
-extend-value L is = absurd (cc is)
-extend-value Lf is = absurd (cc is)
-extend-value Lv is = absurd (cc is)
-extend-value Lvt is = absurd (cc is)
-extend-value Other is = absurd (cc is)
-extend-value Prepend is = absurd (cc is)
-extend-value RegionalIndicator is = absurd (cc is)
-extend-value SpacingMark is = absurd (cc is)
-extend-value T is = absurd (cc is)
-extend-value V is = absurd (cc is)
-extend-value Zwj is = absurd (cc is)
+extend-value : (g : GraphemeClusterBreak) → is_extend_value g ≡ true → g ≡ Extend
+extend-value g is = grapheme_cluster_break_number_injective g Extend (eqb-true _ _ is)
 
 links-none : (i : IndicConjunctBreak) → not (is_linker i) ≡ true → links i false ≡ false
 links-none InCb.None is = refl
@@ -152,7 +138,7 @@ added-is c k is = elim (added-cases c k is) [
         width = zero-kind c (kind c) first.0 ∙ ap (λ n. (n, plain)) (sym zero.1);
         value = inl (extend-value _ first.1);
         unlinked = links-none _ second.0;
-        pictograph = not_true _ second.1;
+        pictograph = not-true _ second.1;
         high = added-above c k is;
         printing = added-printing c k is;
       })

@@ -5,6 +5,7 @@
 #![tactic(auto)]
 
 pub mod break_state;
+mod extended;
 pub mod fits;
 mod from_end;
 pub mod letters;
