@@ -1,5 +1,7 @@
 -- The numbers of the table of SGR codes: those of its ranges, and those that have no row.
-use Rattle.ansi_style.proofs.Common.{◌≡◌, ℕ, zero, suc, ◌+◌, ◌<◌, ◌≤◌, inl, inr, Bool, true, false, ◌||◌, refl, sym, ◌∙◌, subst, arith, Option, Some, None, is_some, rules, agree_below_at, cases_eq, or_cases, true≢false, nat_tests, find, is_in_range, option_map_or, Bit4, Rendition, is_foreground, is_background, Changes, Rows, table, effect_of_code, unknown_code}
+use Rattle.ansi_style.proofs.Common.{◌≡◌, ℕ, zero, suc, ◌+◌, ◌<◌, ◌≤◌, inl, inr, Bool, true, false, ◌||◌, refl, sym, ◌∙◌, subst, arith, Option, Some, None, is_some, rules, agree_below_at, cases_eq, or_cases, true≢false, nat_tests, find, is_in_range, option_map_or, Bit4, Rendition, is_foreground, is_background, Effect, Changes, ReadsColor, Rows, table, effect_of_code, unknown_code, perform, List, [], ◌==◌}
+use Rattle.ansi_style.specs.Fields.{changed}
+use Rattle.ansi_style.specs.Fields as Reads
 
 pub in_range : (lo hi c : ℕ) → is_in_range lo hi c ≡ true → (lo ≤ c) × (c ≤ hi)
 in_range lo hi c h = grind arith
@@ -48,3 +50,23 @@ effect_of_none n (Some r) none = absurd (true≢false none)
 pub effect_of_code-outside : (n : ℕ) → n < 256 → is_in_table n ≡ false → effect_of_code n ≡ unknown_code
 effect_of_code-outside n small outside =
     effect_of_none n (find (λ (r : Rows). is_in_range r.first r.last n) table) (agree_below_at has_row is_in_table 256 n refl small ∙ outside)
+
+-- an effect reads a color from the fields
+abbrev reads : Effect → Bool
+reads (Changes f) = false
+reads _ = true
+
+changes : (e : Effect) (s : Rendition) (fields : List (List ℕ)) → reads e ≡ false → perform e s fields ≡ (changed e s, fields)
+changes (Changes f) s fields e = refl
+changes (ReadsColor put) s fields e = absurd (true≢false e)
+
+-- a code that reads no color leaves the fields after it
+pub perform-changed : (n : ℕ) (s : Rendition) (fields : List (List ℕ)) → n < 256 → ¬ (Reads.ReadsColor n) → perform (effect_of_code n) s fields ≡ (changed (effect_of_code n) s, fields)
+perform-changed n s fields small other =
+    changes (effect_of_code n) s fields (agree_below_at (λ n. reads (effect_of_code n)) (λ n. n == 38 || (n == 48 || n == 58)) 256 n refl small
+    ∙ grind (arith, nat_tests, other))
+
+-- nor does one with no field after it change anything else
+pub perform-alone : (e : Effect) (s : Rendition) → perform e s [] ≡ (changed e s, [])
+perform-alone (Changes f) s = refl
+perform-alone (ReadsColor put) s = refl

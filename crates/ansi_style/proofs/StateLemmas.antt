@@ -1,5 +1,7 @@
 -- The steps of the table, one field after another.
 use Rattle.ansi_style.proofs.Common.{◌≡◌, ℕ, zero, suc, ◌<◌, ◌≤◌, List, ◌∷◌, length, refl, sym, ◌∙◌, ap, ap₂, arith, Option, Some, option_map_or, Rendition, sgr_parameters, Effect, unknown_code, effect_of_code, code_of, effect_of, perform, step, steps, fields_of, apply_parameters, apply, first_field, []}
+use Rattle.ansi_style.specs.Fields.{changed}
+use Rattle.ansi_style.proofs.CodeLemmas.{perform-alone}
 
 perform-left : (e : Effect) (s : Rendition) (fields : List (List ℕ)) → length (perform e s fields).1 ≤ length fields
 perform-left e s fields = grind arith
@@ -46,3 +48,11 @@ after_fields-code s p (field ∷ fields) rest left code first done =
 -- an SGR does what its fields do
 pub apply-parameters : (s : Rendition) (w parameters : List ℕ) → sgr_parameters w ≡ Some parameters → apply s w ≡ after_fields s (fields_of parameters)
 apply-parameters s w parameters is = ap (λ o. option_map_or (apply_parameters s) o s) is
+
+-- and one of a single code changes the style at once
+pub apply-code : (s : Rendition) (w parameters : List ℕ) (code : ℕ) → sgr_parameters w ≡ Some parameters → fields_of parameters ≡ parameters ∷ [] → code_of parameters ≡ Some code
+    → apply s w ≡ changed (effect_of_code code) s
+apply-code s w parameters code is one read =
+    apply-parameters s w parameters is ∙ ap (after_fields s) one
+    ∙ ap (λ o. (perform (option_map_or effect_of_code o unknown_code) s []).0) read
+    ∙ ap (λ x. x.0) (perform-alone (effect_of_code code) s)

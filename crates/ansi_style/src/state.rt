@@ -4,7 +4,7 @@ mod compare;
 pub(crate) mod fields;
 pub mod rendition;
 pub(crate) mod sink;
-mod table;
+pub(crate) mod table;
 pub(crate) mod written;
 
 ghost use Rattle.std.specs.Prelude.{IsTrue};
@@ -17,6 +17,7 @@ use crate::numbers::ColorNumbers;
 use crate::state::attributes::Attributes;
 use crate::state::fields::{Field, Fields};
 pub use crate::state::rendition::Rendition;
+use crate::state::table::reads_color;
 pub use crate::state::written::{AnsiSequenceEnd, AnsiSequenceStart};
 use bitflags::Flags;
 use std::fmt;
@@ -64,15 +65,21 @@ impl Style {
 
     /// Applies one field as an SGR code. A field that is no code counts as an unknown code. A code
     /// that reads a color takes its fields from `rest`.
+    #[inline(always)]
     #[tactic(auto, unfolding(crate::specs::States::rendition_of))]
     pub(crate) fn step(&mut self, field: Field, rest: &mut Fields<'_>)
         ensures { (rendition_of self.new, rest.new)
             ≡ perform (option_map_or effect_of_code field.code unknown_code) (rendition_of self.old)
             rest.old }
     {
-        match field.code {
-            Some(code) => self.perform(code, rest),
-            None => self.set(Attributes::UNKNOWN),
+        let Some(code) = field.code else {
+            self.set(Attributes::UNKNOWN);
+            return;
+        };
+        if reads_color(code) {
+            self.set_color(code, rest);
+        } else {
+            self.change(code);
         }
     }
 

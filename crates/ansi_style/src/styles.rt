@@ -15,6 +15,7 @@ use crate::numbers::ColorNumbers;
 use crate::state::attributes::Attributes;
 use crate::state::fields::{Fields, lone_code, parameters};
 use crate::state::sink::Sink;
+use crate::state::table::{color_code, lone_color};
 use crate::state::{Style, written};
 use arrayvec::ArrayString;
 use bitflags::Flags;
@@ -42,7 +43,7 @@ pub fn apply(style: &mut Style, sequence: &str)
 {
     let parameters = parameters(sequence);
     match lone_code(parameters) {
-        Some(code) => style.perform(code, &mut Fields::none()),
+        Some(code) => style.change(code),
         None => apply_fields(style, parameters),
     }
 }
@@ -53,6 +54,12 @@ pub fn apply(style: &mut Style, sequence: &str)
 fn apply_fields(style: &mut Style, parameters: &[u8])
     ensures { rendition_of style.new ≡ apply_parameters (rendition_of style.old) parameters.now }
 {
+    if let Some((code, rest)) = color_code(parameters)
+        && let Some(color) = lone_color(rest)
+    {
+        style.put_color(code, color);
+        return;
+    }
     let mut fields = Fields::new(parameters);
     while let Some(field) = fields.next_field() {
         style.step(field, &mut fields);

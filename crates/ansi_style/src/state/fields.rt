@@ -1,6 +1,7 @@
 //! The fields of an SGR's parameter bytes, and their numbers.
 ghost use Rattle.std.specs.Prelude.{◌≡◌, [], ◌∷◌, Some, None, IsTrue, IfSome, option_map, nat_le};
 ghost use Rattle.std.specs.Prelude.{if◌then◌else◌, List, ℕ};
+ghost use Rattle.std.specs.Option.{option_map_or};
 ghost use Rattle.std.specs.Str.{byte};
 ghost use Rattle.ansi_items.specs.Sequences.{is_sgr, sgr_parameters};
 ghost use Rattle.ansi_style.specs.Sgr.{fields_of, code_of, color_number};
@@ -43,13 +44,6 @@ impl<'a> Fields<'a> {
         }
     }
 
-    /// No fields.
-    pub(crate) fn none() -> Self
-        ensures { result ≡ [] }
-    {
-        Fields { rest: None }
-    }
-
     /// The next field, or `None` after the last one.
     #[inline(always)]
     pub(crate) fn next_field(&mut self) -> Option<Field>
@@ -65,26 +59,9 @@ impl<'a> Fields<'a> {
             self.rest = None;
             return Some(Field { code: Some(code) });
         }
-        self.any_field()
-    }
-
-    /// The same, byte by byte.
-    #[inline(never)]
-    fn any_field(&mut self) -> Option<Field>
-        ensures { (option_map (λ field. field.code) result, self.new)
-            ≡ first_field code_of self.old }
-    {
-        let bytes = self.rest?;
-        let mut number = Number::ZERO;
-        for (i, byte) in bytes.iter().enumerate() {
-            if *byte == b';' {
-                self.rest = Some(&bytes[i + 1..]);
-                return Some(number.field());
-            }
-            number = number.with_digit(*byte);
-        }
-        self.rest = None;
-        Some(number.field())
+        let (field, rest) = any_field(bytes);
+        self.rest = rest;
+        Some(field)
     }
 
     /// The next field as a number of a color, which is 0 if the field isn't a number. `None` after
@@ -97,6 +74,23 @@ impl<'a> Fields<'a> {
         let field = self.next_field()?;
         Some(field.code.unwrap_or(0))
     }
+}
+
+/// The first field of the parameter bytes, and the bytes after it, if more follow. They aren't taken by
+/// reference, so that those of `Fields` stay in registers.
+#[inline(never)]
+fn any_field(parameters: &[u8]) -> (Field, Option<&[u8]>)
+    ensures { (Some result.0.code, option_map_or (λ rest. fields_of rest.now) result.1 [])
+        ≡ first_field code_of (fields_of parameters.now) }
+{
+    let mut number = Number::ZERO;
+    for (i, byte) in parameters.iter().enumerate() {
+        if *byte == b';' {
+            return (number.field(), Some(&parameters[i + 1..]));
+        }
+        number = number.with_digit(*byte);
+    }
+    (number.field(), None)
 }
 
 /// A fast path: the code, if the parameter bytes are one field of at most three digits, as most
@@ -118,7 +112,7 @@ pub(crate) fn lone_code(parameters: &[u8]) -> Option<u8>
 /// A fast path: the first field as a code and the parameter bytes after it, if the field has one to
 /// three digits and a `;` after it. Otherwise, and if it is more than 255, `None`.
 #[inline(always)]
-fn short_field(parameters: &[u8]) -> Option<(u8, &[u8])>
+pub(crate) fn short_field(parameters: &[u8]) -> Option<(u8, &[u8])>
     ensures { IfSome result (λ first.
         (Some (Some first.0), fields_of first.1.now) ≡ first_field code_of (fields_of parameters.now)) }
 {
