@@ -23,6 +23,7 @@ use std::alloc::{AllocError, Allocator};
 
 /// Writes a shown text, or reports out of memory. Allocates only if there is no room for all of it, or
 /// its close is long.
+#[inline(always)]
 pub(crate) fn write_shown<A: Allocator + Copy>(
     alloc: A,
     shown: Result<Shown<'_, '_, A>, AllocError>,

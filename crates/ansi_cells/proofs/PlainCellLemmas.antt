@@ -35,6 +35,7 @@ use Rattle.ansi_safe.specs.Links.{link_of, opens_link}
 use Rattle.ansi_safe.proofs.FrontLemmas.{prefix_len-take}
 use Rattle.ansi_safe.proofs.CellTextLemmas.{cell-stays, whole-cell}
 use Rattle.ansi_safe.proofs.LinkLemmas.{is_link-sgr, link_of-pieces, link_through}
+use Rattle.ansi_clusters.proofs.StepLemmas.{as-least, printable-test}
 use Rattle.ansi_clusters.specs.Views.{seen_text}
 use Rattle.ansi_clusters.specs.Columns.{clusters, columns, columns_of, bytes_of, FitsUpTo, fitting_end}
 use Rattle.ansi_cells.specs.PlainCells.{IsPlainText, last_byte, IsPlainCell}
@@ -361,26 +362,6 @@ plain-padded {t} {most} {left} {style = style} width {blanks} is blanks_are =
       closes = closes;
       bytes = λ alignment. padded-between (cell t) width alignment (append_assoc t ([] ++ close style) [] ∙ ap₂ (λ u v. u ++ v) (sym stays) closes) lack;
     }
-
--- ---- the test of a run
-
-one-more : (n m : ℕ) → nat_eq (1 + n) (suc m) ≡ nat_eq n m
-one-more n m = grind (arith, nat_tests)
-
-none-more : (m : ℕ) → nat_eq 0 (suc m) ≡ false
-none-more m = grind (arith, nat_tests)
-
--- each byte is printable if as many are at the front as there are
-pub printable-test : (w : List ℕ) → nat_eq (prefix_len is_printable w) (length w) ≡ list_all is_printable w
-printable-test [] = refl
-printable-test (b ∷ w) = by (is_printable b) (printable-test w)
-  where
-    by : (p : Bool) → nat_eq (prefix_len is_printable w) (length w) ≡ list_all is_printable w → nat_eq (if p then 1 + prefix_len is_printable w else 0) (suc (length w)) ≡ (p && list_all is_printable w)
-    by true same = one-more (prefix_len is_printable w) (length w) ∙ same
-    by false same = none-more (length w)
-
-pub as-least : (n m : ℕ) → nat_le n m ≡ nat_eq (min m n) n
-as-least n m = grind (arith, nat_tests)
 
 -- n bytes are printable if at least that many are at the front
 pub printable-front : (n : ℕ) (x : List ℕ) → n ≤ length x → nat_le n (prefix_len is_printable x) ≡ list_all is_printable (take n x)

@@ -70,7 +70,11 @@ fn cut_bare<'t>(text: &'t str, width: usize, tail: &str) -> Option<&'t str>
 {
     // The byte after the one that doesn't fit shows that that is a cluster by itself.
     let after = width.checked_add(2)?;
-    if tail == "…" && 0 < width && after <= text.len() && is_printable(text, 0, after) {
+    if after <= text.len()
+        && 0 < width
+        && tail.as_bytes() == "…".as_bytes()
+        && is_printable(text, 0, after)
+    {
         return Some(&text[..width - 1]);
     }
     None

@@ -12,13 +12,15 @@ ghost use Rattle.ansi_clusters.specs.declared.walks.Walk.{Walk};
 ghost use Rattle.ansi_cells.specs.PlainCells.{IsFront, IsPlainCell, IsPlainBefore, IsPlainCut};
 ghost use Rattle.ansi_clusters.specs.declared.views.View.{View};
 ghost use Rattle.ansi_clusters.specs.Letters.{IsPlainFront};
+ghost use Rattle.ansi_clusters.specs.Steps.{IsStepOf};
 ghost use Rattle.ansi_clusters.specs.Walks.{IsAnyWalk, IsPastAscii, IsFitted};
 
 use ansi_clusters::fits::Fitted;
 use ansi_clusters::letters;
+use ansi_clusters::steps::{Step, Steps};
 use ansi_clusters::walks::Walk;
 use ansi_items::ESC;
-use ansi_items::ansitok::{Kind, Scanner};
+use ansi_items::ansitok::Kind;
 use ansi_safe::printable::printable_len;
 use ansi_safe::utf8::is_ascii;
 use ansi_style::state::Style;
@@ -171,16 +173,16 @@ pub(crate) fn plain_runs(text: &str, width: usize) -> Option<PlainFront>
         left: width,
         spare: 0,
     };
-    for item in Scanner::new(near) {
-        let piece = &near[item.start..item.end];
-        if item.kind == Kind::Sgr {
+    for step in Steps::new(near) {
+        let piece = &near[step.item.start..step.item.end];
+        if step.item.kind == Kind::Sgr {
             styles::apply(&mut style, piece);
             continue;
         }
-        if item.kind != Kind::Text {
+        if step.item.kind != Kind::Text {
             return None;
         }
-        if piece.len() <= left && item.end <= most && is_printable(near, item.start, item.end) {
+        if step.is_printable() && piece.len() <= left && step.item.end <= most {
             left -= piece.len();
             last = piece.as_bytes()[piece.len() - 1];
             continue;
@@ -189,8 +191,8 @@ pub(crate) fn plain_runs(text: &str, width: usize) -> Option<PlainFront>
         let len = others.len + (others.left - all);
         // Of a long text, only printable ASCII is passed.
         let room = if near.len() < text.len() { 0 } else { all };
-        let Some((columns, spare)) = columns_of_others(near, item.start, item.end, room) else {
-            let run = Walk::at_run(&item, len);
+        let Some((columns, spare)) = columns_of_others(near, step, room) else {
+            let run = Walk::at_run(&step.item, len);
             return Some(PlainFront {
                 left: all,
                 len,
@@ -231,61 +233,57 @@ struct Others {
     spare: usize,
 }
 
-/// The columns of the run from `start` up to `end`, if its characters are clusters by themselves beside each
-/// other, and fit into `most` columns, and how many columns to leave for a tail: one if more follows. `None` says
-/// nothing: a run that seems too wide or to have other characters isn't looked at.
+/// The columns of a run, if its characters are clusters by themselves beside each other, and fit into `most`
+/// columns, and how many columns to leave for a tail: one if more follows. `None` says nothing: a run that seems
+/// too wide or to have other characters isn't looked at.
 #[inline(always)]
-fn columns_of_others(text: &str, start: usize, end: usize, most: usize) -> Option<(usize, usize)>
-    requires ordered { start ≤ end }
-    requires start { IsCharBoundary text.now start }
-    requires end { IsCharBoundary text.now end }
+fn columns_of_others(text: &str, run: Step, most: usize) -> Option<(usize, usize)>
+    requires { IsStepOf text.now run }
     ensures run { IfSome result (λ (columns, spare).
-        IsPlainFront (slice_range text.now start end) (end - start) columns) }
+        IsPlainFront (slice_range text.now run.item.start run.item.end)
+        (run.item.end - run.item.start) columns) }
     ensures most { IfSome result (λ (columns, spare). columns + spare ≤ most) }
 {
-    let run = &text.as_bytes()[start..end];
+    let bytes_of_run = &text.as_bytes()[run.item.start..run.item.end];
     // Letters have at most two bytes for a column, and most runs of Japanese three for two.
-    let bytes = match run {
+    let bytes = match bytes_of_run {
         [0..=0x7F, ..] => most,
         [0xC0..=0xDF, ..] => most.saturating_mul(2),
         _ => most.saturating_add(most / 2),
     };
-    if bytes < run.len() || may_join(run) {
+    if bytes < bytes_of_run.len() || may_join(bytes_of_run) {
         return None;
     }
-    columns_that_fit(text, start, end, most)
+    columns_that_fit(text, run, most)
 }
 
 /// The same, of any run.
 #[inline(never)]
-fn columns_that_fit(text: &str, start: usize, end: usize, most: usize) -> Option<(usize, usize)>
-    requires ordered { start ≤ end }
-    requires start { IsCharBoundary text.now start }
-    requires end { IsCharBoundary text.now end }
+fn columns_that_fit(text: &str, run: Step, most: usize) -> Option<(usize, usize)>
+    requires { IsStepOf text.now run }
     ensures run { IfSome result (λ (columns, spare).
-        IsPlainFront (slice_range text.now start end) (end - start) columns) }
+        IsPlainFront (slice_range text.now run.item.start run.item.end)
+        (run.item.end - run.item.start) columns) }
     ensures most { IfSome result (λ (columns, spare). columns + spare ≤ most) }
 {
-    let (len, columns) = plain_part(text, start, end, printable_near(text, start, end));
-    let spare = if end < text.len() { 1 } else { 0 };
-    if len < end - start || most < columns || most - columns < spare {
+    let (len, columns) = plain_part(text, run);
+    let spare = if run.item.end < text.len() { 1 } else { 0 };
+    if len < run.item.end - run.item.start || most < columns || most - columns < spare {
         return None;
     }
     Some((columns, spare))
 }
 
-/// How many bytes of such characters a run begins with, and their columns. `printable` is what
-/// `printable_near` returns for the run.
+/// How many bytes of such characters a run begins with, and their columns.
 #[inline(always)]
-pub(crate) fn plain_part(text: &str, start: usize, end: usize, printable: usize) -> (usize, usize)
-    requires ordered { start ≤ end }
-    requires start { IsCharBoundary text.now start }
-    requires end { IsCharBoundary text.now end }
-    requires printable { min printable (end - start)
-        ≡ prefix_len is_printable_byte (slice_range text.now start end) }
-    ensures { IsPlainFront (slice_range text.now start end) result.0 result.1 }
+pub(crate) fn plain_part(text: &str, run: Step) -> (usize, usize)
+    requires { IsStepOf text.now run }
+    ensures { IsPlainFront (slice_range text.now run.item.start run.item.end)
+        result.0 result.1 }
 {
-    let ascii = printable.min(end - start);
+    let start = run.item.start;
+    let end = run.item.end;
+    let ascii = run.printable;
     if ascii == end - start || text.as_bytes()[start + ascii] < 0x80 {
         return (ascii, ascii);
     }

@@ -22,14 +22,16 @@ ghost use Rattle.ansi_cells.specs.Slices.{is_sliced_stretch, sliced_blanks, slic
 ghost use Rattle.ansi_cells.specs.Slices.{AreParts, is_ascii_piece, IsAsciiSlice, IsShownCell, IsEdge, closed_at};
 ghost use Rattle.ansi_cells.specs.Slices.{sliced_bytes, IsLentSlice};
 ghost use Rattle.ansi_cells.specs.Screens.{screen, sliced_screen};
+ghost use Rattle.ansi_clusters.specs.Steps.{IsStepOf};
 ghost use Rattle.ansi_clusters.specs.Walks.{IsWalk, clusters_from};
 
 use crate::plain_cells::{LONGEST, is_printable};
 use crate::shown::push_blanks;
+use ansi_clusters::steps::{Step, Steps};
 use ansi_clusters::views::View;
 use ansi_clusters::walks::{Run, Walk};
 use ansi_items::ESC;
-use ansi_items::ansitok::{Item, Kind, Scanner};
+use ansi_items::ansitok::Kind;
 use ansi_safe::cells::cell_of;
 use ansi_safe::links::{
     Ending, Pen, address_of, link_after, pen_after, pen_after_from, plain_pen, terminator_len,
@@ -422,25 +424,25 @@ fn ascii_parts(text: &str, start: usize, end: usize, is_cell: bool) -> AsciiSlic
     let mut opened = plain_pen();
     let mut from = 0;
     let mut place = 0;
-    for item in Scanner::new(text) {
-        if !item_stays(text, &item) {
+    for step in Steps::new(text) {
+        if !item_stays(text, step) {
             return AsciiSlice::Unknown;
         }
-        let piece = &text[item.start..item.end];
-        if item.kind == Kind::Text {
+        let piece = &text[step.item.start..step.item.end];
+        if step.item.kind == Kind::Text {
             if is_in_run(start, place, piece.len()) {
-                from = item.start + (start - place);
+                from = step.item.start + (start - place);
                 opened = Pen { style, link };
             }
             if end - place < piece.len() {
-                if !is_cell && !items_stay(&text[item.end..]) {
+                if !is_cell && !items_stay(&text[step.item.end..]) {
                     return AsciiSlice::Unknown;
                 }
-                let stretch = &text[from..item.start + (end - place)];
+                let stretch = &text[from..step.item.start + (end - place)];
                 return AsciiSlice::Parts(Parts::stretch(opened, stretch, Pen { style, link }));
             }
             place += piece.len();
-        } else if item.kind == Kind::Sgr {
+        } else if step.item.kind == Kind::Sgr {
             styles::apply(&mut style, piece);
         } else {
             link = link_after(link, piece);
@@ -457,8 +459,8 @@ fn ascii_parts(text: &str, start: usize, end: usize, is_cell: bool) -> AsciiSlic
 fn items_stay(text: &str) -> bool
     ensures { result ≡ list_all is_ascii_piece (pieces_of text.now) }
 {
-    for item in Scanner::new(text) {
-        if !item_stays(text, &item) {
+    for step in Steps::new(text) {
+        if !item_stays(text, step) {
             return false;
         }
     }
@@ -467,17 +469,15 @@ fn items_stay(text: &str) -> bool
 
 /// Whether an item of the text is printable ASCII, or a sequence that stays as it is in a cell.
 #[inline(always)]
-fn item_stays(text: &str, item: &Item) -> bool
-    requires start { IsCharBoundary text.now item.now.start }
-    requires end { IsCharBoundary text.now item.now.end }
-    requires ordered { item.now.start ≤ item.now.end }
-    requires kind { item.now.kind ≡ kind_of (piece_of text.now item.now) }
-    ensures { result ≡ is_ascii_piece (piece_of text.now item.now) }
+fn item_stays(text: &str, step: Step) -> bool
+    requires step { IsStepOf text.now step }
+    requires kind { step.item.kind ≡ kind_of (piece_of text.now step.item) }
+    ensures { result ≡ is_ascii_piece (piece_of text.now step.item) }
 {
-    match item.kind {
-        Kind::Text => is_printable(text, item.start, item.end),
+    match step.item.kind {
+        Kind::Text => step.is_printable(),
         Kind::Sgr => true,
-        Kind::Other => is_clean_link(&text[item.start..item.end]),
+        Kind::Other => is_clean_link(&text[step.item.start..step.item.end]),
         Kind::Lone => false,
     }
 }

@@ -7,21 +7,21 @@ ghost use Rattle.ansi_clusters.specs.Columns.{columns};
 ghost use Rattle.ansi_clusters.specs.Views.{seen_text};
 ghost use Rattle.ansi_clusters.specs.Walks.{IsWalkIn, IsCounted, IsCountedTo};
 
-use crate::plain_cells::{plain_part, printable_near};
+use crate::plain_cells::{LONGEST, plain_part};
+use ansi_clusters::steps::Steps;
 use ansi_clusters::views::View;
 use ansi_clusters::walks::Walk;
-use ansi_items::ansitok::{Kind, Scanner};
+use ansi_items::ansitok::Kind;
 use ansi_safe::printable::printable_len;
 
 /// The columns of what is seen of a text.
 pub fn width(text: &str, view: View) -> usize
     ensures { result ≡ columns (seen_text view text.now) }
 {
-    let printable = printable_front(text);
-    if printable == text.len() {
-        return printable;
+    if text.len() <= LONGEST && printable_front(text) == text.len() {
+        return text.len();
     }
-    match plain_runs(text, printable) {
+    match plain_runs(text) {
         (columns, None) => columns,
         (columns, Some(next)) => walked_width(text, view, next, columns),
     }
@@ -40,26 +40,20 @@ fn printable_front(text: &str) -> usize
 
 /// The columns of the characters of a text that are clusters by themselves beside each other, up to another
 /// one, and the walk before the last of them. If the other one may join a character before a sequence, they
-/// are none, and the walk is at the beginning. The text begins with `printable` bytes of printable ASCII.
-fn plain_runs(text: &str, printable: usize) -> (usize, Option<Walk>)
-    requires { printable ≡ prefix_len is_printable_byte text.now }
+/// are none, and the walk is at the beginning.
+fn plain_runs(text: &str) -> (usize, Option<Walk>)
     ensures { MatchOption result.1 ((view : View) → result.0 ≡ columns (seen_text view text.now))
         (IsCounted text.now result.0) }
 {
     let mut position = 0;
     let mut columns = 0;
-    for item in Scanner::new(text) {
-        if item.kind != Kind::Text {
+    for step in Steps::new(text) {
+        if step.item.kind != Kind::Text {
             continue;
         }
-        let near = if item.start == 0 {
-            printable
-        } else {
-            printable_near(text, item.start, item.end)
-        };
-        let (len, more) = plain_part(text, item.start, item.end, near);
-        if len < item.end - item.start {
-            let run = Walk::at_run(&item, position);
+        let (len, more) = plain_part(text, step);
+        if len < step.item.end - step.item.start {
+            let run = Walk::at_run(&step.item, position);
             if len == 0 {
                 if position > 0 && !run.ends_ascii(text) {
                     return (0, Some(Walk::start(text)));

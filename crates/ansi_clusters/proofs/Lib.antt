@@ -7,6 +7,7 @@ pub mod ViewLemmas
 pub mod TightLemmas
 pub mod WalkLemmas
 pub mod ReverseLemmas
+pub mod StepLemmas
 pub mod NearLemmas
 pub mod LastMarkLemmas
 pub mod WidthLemmas

@@ -5,6 +5,7 @@ pub mod BreakStates
 pub mod Views
 pub mod Walks
 pub mod Reverse
+pub mod Steps
 pub mod Words
 pub mod Letters
 pub mod LineWalks

@@ -12,5 +12,6 @@ pub mod letters;
 pub mod line_walks;
 pub mod lines;
 mod singles;
+pub mod steps;
 pub mod views;
 pub mod walks;

@@ -5,4 +5,4 @@
 pub mod ansitok;
 pub mod laws;
 
-pub use ansitok::grammar::ESC;
+pub use ansitok::grammar::{ESC, mark_at};

@@ -3,11 +3,13 @@
 //!
 //! `memchr` finds the next ESC after each mark, and an attempt at a sequence never passes it. So a
 //! scan takes at most three looks for each byte.
-ghost use Rattle.std.specs.Prelude.{◌≡◌, ◌≤◌, length, take};
+ghost use Rattle.std.specs.Prelude.{◌≡◌, ◌≤◌, ◌<◌, length, take, drop, slice_index};
 ghost use Rattle.std.specs.List.{prefix_len};
-ghost use Rattle.ansi_items.specs.Bytes.{is_parameter_byte};
+ghost use Rattle.ansi_items.specs.Bytes.{escape, is_parameter_byte};
+ghost use Rattle.ansi_items.specs.Fronts.{front_at};
+ghost use Rattle.ansi_items.specs.Scans.{GivesItem};
 
-use crate::ansitok::Kind;
+use crate::ansitok::{Item, Kind};
 use memchr::memchr;
 use std::simd::prelude::*;
 
@@ -29,6 +31,50 @@ const LONE: Front = Front {
     kind: Kind::Lone,
     len: 1,
 };
+
+/// Returns the item that the ESC at an offset of a text begins: a whole sequence, or a lone escape.
+///
+/// It is the one that a scanner returns there. The next ESC isn't looked for unless it may end that
+/// item. It doesn't allocate. (Own.)
+#[inline(always)]
+pub fn mark_at(text: &str, start: usize) -> Item
+    requires inside { start < length text.now }
+    requires escape { slice_index text.now start ≡ escape }
+    ensures { GivesItem (record { text = text.now; offset = start }) result
+        (record { text = text.now; offset = result.end }) }
+{
+    let front = front_of_mark(text.as_bytes(), start);
+    Item {
+        kind: front.kind,
+        start,
+        end: start + front.len,
+    }
+}
+
+/// The mark that the ESC at `start` begins.
+#[inline(always)]
+fn front_of_mark(text: &[u8], start: usize) -> Front
+    requires inside { start < length text.now }
+    requires escape { slice_index text.now start ≡ escape }
+    ensures { result ≡ front_at (drop start text.now) }
+{
+    let mut looks = Looks { count: 0 };
+    match looks.byte(text, start + 1) {
+        Some(b'[') => looks.control_sequence(&text[start + 2..]).unwrap_or(LONE),
+        _ => front_of_other(text, start),
+    }
+}
+
+/// The same, of any ESC.
+#[inline(never)]
+fn front_of_other(text: &[u8], start: usize) -> Front
+    requires inside { start < length text.now }
+    requires escape { slice_index text.now start ≡ escape }
+    ensures { result ≡ front_at (drop start text.now) }
+{
+    let mut looks = Looks { count: 0 };
+    looks.mark(text, start).0
+}
 
 /// A count of looks at the bytes of a text, each byte as often as it is looked at.
 #[derive(Drop)]

@@ -1,6 +1,6 @@
 use Rattle.std.proofs.Common.{◌≡◌, ◌-◌, length, nat_eq, slice_range, sym, ◌∙◌, ap₂}
 use Rattle.ansi_search.proofs.SliceLemmas.{length-slice_range}
-use Rattle.ansi_cells.proofs.PlainCellLemmas.{as-least, printable-test}
+use Rattle.ansi_clusters.proofs.StepLemmas.{as-least, printable-test}
 use Rattle.ansi_cells.proofs.plain_cells.is_printable.Goals as goal
 
 pub returns : goal.returns

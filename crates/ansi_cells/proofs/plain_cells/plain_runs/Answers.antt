@@ -15,20 +15,21 @@ use Rattle.ansi_safe.proofs.LinkLemmas.{is_kind}
 use Rattle.ansi_style.specs.States.{rendition_of}
 use Rattle.ansi_cells.specs.PlainCells.{IsPlainCell}
 use Rattle.ansi_clusters.specs.Letters.{IsPlainFront}
+use Rattle.ansi_clusters.specs.Steps.{IsStepOf}
 use Rattle.ansi_clusters.proofs.AsciiLemmas.{is_printable}
 use Rattle.ansi_cells.proofs.PlainCellLemmas.{IsPlainSoFar, plain-begin, plain-end, plain-run, plain-sgr, plain-within, printable-run, run-within, so_far-at}
 use Rattle.ansi_cells.proofs.PlainFrontLemmas.{at-run}
 use Rattle.ansi_cells.proofs.plain_cells.plain_runs.Goals as goal
 
 pub range-piece-requires : goal.range-piece-requires
-range-piece-requires c = item_range c.in-Some.ensures.steps c.loop-item.invariant.text
+range-piece-requires c = item_range c.in-Some.ensures.steps.gives c.loop-step.invariant.text
 
-pub loop-item-init : goal.loop-item-init
-loop-item-init c =
+pub loop-step-init : goal.loop-step-init
+loop-step-init c =
     let t = c.range-near.result.now in
     let width = c.args.width in
-    let start = c.into_iter-item-iterator.result in
-    let begins : start ≡ record { text = t; offset = 0 } = c.into_iter-item-iterator.ensures.into_iter_gives ∙ c.new-item-items.ensures.start in
+    let start = c.into_iter-step-iterator.result in
+    let begins : start ≡ record { text = t; offset = 0 } = c.into_iter-step-iterator.ensures.into_iter_gives ∙ c.new-step-items.ensures in
     let none : width + 0 ≡ width = omega arith in
     let nothing : 0 + (width - (width + 0)) ≡ 0 = omega arith in
     record {
@@ -39,21 +40,22 @@ loop-item-init c =
     }
 
 -- over an SGR
-pub loop-item-preserved-then-eq : goal.loop-item-preserved-then-eq
-loop-item-preserved-then-eq c =
-    let gives = c.in-Some.ensures.steps in
-    let inv = c.loop-item.invariant in
+pub loop-step-preserved-then-eq : goal.loop-step-preserved-then-eq
+loop-step-preserved-then-eq c =
+    let gives = c.in-Some.ensures.steps.gives in
+    let inv = c.loop-step.invariant in
     let kind = is_kind Sgr c.if-eq.ensures in
     record { text = gives.text ∙ inv.text; so_far = plain-sgr inv.so_far (over_mark gives inv.text c.range-piece.ensures.value (λ e. cc)) kind c.apply.ensures; less = inv.less }
 
 -- over a run of printable ASCII
-pub loop-item-preserved-then-is_printable : goal.loop-item-preserved-then-is_printable
-loop-item-preserved-then-is_printable c =
-    let gives = c.in-Some.ensures.steps in
-    let inv = c.loop-item.invariant in
+pub loop-step-preserved-then-step-most : goal.loop-step-preserved-then-step-most
+loop-step-preserved-then-step-most c =
+    let gives = c.in-Some.ensures.steps.gives in
+    let inv = c.loop-step.invariant in
     let piece = c.range-piece.result.now in
     let over = over_text gives inv.text c.range-piece.ensures.value (kind_is_text (sym (not-false _ (sym c.if-ne.ensures)))) in
-    let all : list_all is_printable piece ≡ true = ap (list_all is_printable) c.range-piece.ensures.value ∙ sym c.is_printable.ensures ∙ c.if-is_printable.true in
+    let is_step = subst (λ u. IsStepOf u c.in-Some.step) inv.text c.in-Some.ensures.steps.is_step in
+    let all : list_all is_printable piece ≡ true = ap (list_all is_printable) c.range-piece.ensures.value ∙ sym (c.is_printable.ensures _ is_step) ∙ c.if-is_printable.true in
     record {
       text = gives.text ∙ inv.text;
       so_far = plain-run inv.so_far over c.range-piece.utf8 (printable-run piece c.range-piece.utf8 all) (omega (arith, c.if-piece-left.true)) (omega (arith, inv.less, c.if-piece-left.true)) (omega (arith, over.count, gives.start, gives.end, gives.forward))
@@ -66,7 +68,7 @@ loop-item-preserved-then-is_printable c =
 pub overflow_add-len : goal.overflow_add-len
 overflow_add-len c =
     let size : length c.range-near.result.now < 2 ^ 63 = search rules in
-    omega (arith, size, plain-within c.loop-item.invariant.so_far)
+    omega (arith, size, plain-within c.loop-step.invariant.so_far)
 
 pub returns-in_default : goal.returns-in_default
 returns-in_default c =
@@ -74,25 +76,25 @@ returns-in_default c =
     let n = c.floor_char_boundary.result in
     let count : n - 0 ≡ n = omega arith in
     let near : c.range-near.result.now ≡ take n t = c.range-near.ensures.value ∙ ap (λ m. take m t) count in
-    let inv = c.loop-item.invariant in
-    at-run n _ c.utf8.text c.floor_char_boundary.ensures.boundary near inv.so_far c.in-Some.ensures.steps inv.text (kind_is_text (sym (not-false _ (sym c.if-ne.ensures)))) c.at_run-run.ensures
+    let inv = c.loop-step.invariant in
+    at-run n _ c.utf8.text c.floor_char_boundary.ensures.boundary near inv.so_far c.in-Some.ensures.steps.gives inv.text (kind_is_text (sym (not-false _ (sym c.if-ne.ensures)))) c.at_run-run.ensures
 
 -- over it
 
 pub overflow_add-others : goal.overflow_add-others
 overflow_add-others c =
     let size : length c.range-near.result.now < 2 ^ 63 = search rules in
-    let over = over_text c.in-Some.ensures.steps c.loop-item.invariant.text c.range-piece.ensures.value (kind_is_text (sym (not-false _ (sym c.if-ne.ensures)))) in
-    omega (arith, size, run-within c.loop-item.invariant.so_far over)
+    let over = over_text c.in-Some.ensures.steps.gives c.loop-step.invariant.text c.range-piece.ensures.value (kind_is_text (sym (not-false _ (sym c.if-ne.ensures)))) in
+    omega (arith, size, run-within c.loop-step.invariant.so_far over)
 
-pub loop-item-preserved : goal.loop-item-preserved
-loop-item-preserved c =
+pub loop-step-preserved : goal.loop-step-preserved
+loop-step-preserved c =
     let near = c.range-near.result.now in
-    let gives = c.in-Some.ensures.steps in
-    let inv = c.loop-item.invariant in
-    let item = c.in-Some.item in
+    let gives = c.in-Some.ensures.steps.gives in
+    let inv = c.loop-step.invariant in
+    let item = c.in-Some.step.item in
     let piece = c.range-piece.result.now in
-    let all = c.loop-item.left + c.loop-item.others.spare in
+    let all = c.loop-step.left + c.loop-step.others.spare in
     let columns = c.in-Some-columns_of_others.columns in
     let spare = c.in-Some-columns_of_others.spare in
     let range = item_range gives inv.text in
@@ -105,7 +107,7 @@ loop-item-preserved c =
     record {
       text = gives.text ∙ inv.text;
       so_far = so_far-at (omega (arith, room)) (omega (arith, room)) (plain-run {next = all - columns} inv.so_far over c.range-piece.utf8 run (omega (arith, room)) refl (omega (arith, over.count, gives.start, gives.end, gives.forward))
-          (ap (λ b. slice_index b (length piece - 1)) c.as_bytes-in-loop-item.ensures.value));
+          (ap (λ b. slice_index b (length piece - 1)) c.as_bytes-in-loop-step.ensures.value));
       less = omega (arith, room);
     }
 
@@ -114,7 +116,7 @@ loop-item-preserved c =
 pub overflow_add-result : goal.overflow_add-result
 overflow_add-result c =
     let size : length c.range-near.result.now < 2 ^ 63 = search rules in
-    omega (arith, size, plain-within c.loop-item.invariant.so_far)
+    omega (arith, size, plain-within c.loop-step.invariant.so_far)
 
 pub returns : goal.returns
 returns c =
@@ -126,8 +128,8 @@ returns c =
     let size : length c.range-near.result.now ≡ n = ap length near ∙ length-take-le n t boundary.0 in
     let whole : t ≡ c.range-near.result.now = sym (near ∙ take_all n t (omega (arith, size, c.if-near-text-3.false))) in
     let utf8 = subst IsUtf8 (sym near) (IsUtf8-take t n c.utf8.text boundary) in
-    let made = plain-end utf8 c.loop-item.invariant.so_far c.in-None.ensures.steps.2 in
+    let made = plain-end utf8 c.loop-step.invariant.so_far c.in-None.ensures.steps.2 in
     record {
-      is_cell = subst (λ u. IsPlainCell u c.args.width (c.loop-item.left + c.loop-item.others.spare) (rendition_of c.loop-item.style) c.loop-item.last) (sym whole) made.0;
+      is_cell = subst (λ u. IsPlainCell u c.args.width (c.loop-step.left + c.loop-step.others.spare) (rendition_of c.loop-step.style) c.loop-step.last) (sym whole) made.0;
       len = made.1 ∙ ap (λ u. length (plain u)) (sym whole);
     }

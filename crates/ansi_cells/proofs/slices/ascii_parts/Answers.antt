@@ -11,24 +11,24 @@ use Rattle.ansi_cells.proofs.AsciiSliceLemmas.{IsOpened, IsAsciiCell, ascii-cell
 use Rattle.ansi_cells.proofs.slices.ascii_parts.Goals.{then-is_in_run, else-is_in_run, else-not-is_cell-via-then-not-is_cell+else-not-items_stay, else-not-is_cell-via-else-not-is_cell}
 use Rattle.ansi_cells.proofs.slices.ascii_parts.Goals as goal
 
-pub loop-item-init : goal.loop-item-init
-loop-item-init c =
-    let begins : c.into_iter-item-iterator.result ≡ record { text = c.args.text.now; offset = 0 } = c.into_iter-item-iterator.ensures.into_iter_gives ∙ c.new-item-items.ensures.start in
+pub loop-step-init : goal.loop-step-init
+loop-step-init c =
+    let begins : c.into_iter-step-iterator.result ≡ record { text = c.args.text.now; offset = 0 } = c.into_iter-step-iterator.ensures.into_iter_gives ∙ c.new-step-items.ensures in
     record { text = ap (λ s. s.text) begins; so_far = rw (begins, c.plain_pen-opened.ensures.style, c.plain_pen-opened.ensures.link, c.plain_style-style.ensures) (slice-begin c.args.text.now c.args.start c.args.end); decides = search rules; link_is_text = search rules }
 
 pub is_in_run-requires : goal.is_in_run-requires
 is_in_run-requires c =
-    let over = over_text c.in-Some.ensures.steps c.loop-item.invariant.text c.range-piece.ensures.value (kind_is_text c.if-eq.ensures) in
-    omega (arith, run-fits c.loop-item.invariant.so_far over)
+    let over = over_text c.in-Some.ensures.steps.gives c.loop-step.invariant.text c.range-piece.ensures.value (kind_is_text c.if-eq.ensures) in
+    omega (arith, run-fits c.loop-step.invariant.so_far over)
 
 -- at the run of the last edge
 
 pub range-stretch-requires-clause-start_le_end : goal.range-stretch-requires-clause-start_le_end
 range-stretch-requires-clause-start_le_end c =
-    let inv = c.loop-item.invariant in
-    let gives = c.in-Some.ensures.steps in
+    let inv = c.loop-step.invariant in
+    let gives = c.in-Some.ensures.steps.gives in
     let over = over_text gives inv.text c.range-piece.ensures.value (kind_is_text c.if-eq.ensures) in
-    let found : (c.args.start ≡ 0) ⊎ (c.args.start < c.loop-item.place + length c.range-piece.result.now) → IsOpened c.args.text.now c.args.start c.if-is_in_run.from (rendition_of c.if-is_in_run.opened.style) c.if-is_in_run.opened.link.now
+    let found : (c.args.start ≡ 0) ⊎ (c.args.start < c.loop-step.place + length c.range-piece.result.now) → IsOpened c.args.text.now c.args.start c.if-is_in_run.from (rendition_of c.if-is_in_run.opened.style) c.if-is_in_run.opened.link.now
     = elim c.if-is_in_run.branch [
       | then-is_in_run w ↦ rw (w.from-is, w.opened-is) (found-here inv.so_far over (sym c.is_in_run.ensures ∙ w.if-is_in_run.true) gives.start)
       | else-is_in_run w ↦ rw (w.from-is, w.opened-is) (found-stays inv.so_far over (sym c.is_in_run.ensures ∙ w.if-is_in_run.false))
@@ -45,10 +45,10 @@ range-stretch-requires-clause-start_le_end c =
 
 pub range-stretch-requires-clause-start_boundary : goal.range-stretch-requires-clause-start_boundary
 range-stretch-requires-clause-start_boundary c =
-    let inv = c.loop-item.invariant in
-    let gives = c.in-Some.ensures.steps in
+    let inv = c.loop-step.invariant in
+    let gives = c.in-Some.ensures.steps.gives in
     let over = over_text gives inv.text c.range-piece.ensures.value (kind_is_text c.if-eq.ensures) in
-    let found : (c.args.start ≡ 0) ⊎ (c.args.start < c.loop-item.place + length c.range-piece.result.now) → IsOpened c.args.text.now c.args.start c.if-is_in_run.from (rendition_of c.if-is_in_run.opened.style) c.if-is_in_run.opened.link.now
+    let found : (c.args.start ≡ 0) ⊎ (c.args.start < c.loop-step.place + length c.range-piece.result.now) → IsOpened c.args.text.now c.args.start c.if-is_in_run.from (rendition_of c.if-is_in_run.opened.style) c.if-is_in_run.opened.link.now
     = elim c.if-is_in_run.branch [
       | then-is_in_run w ↦ rw (w.from-is, w.opened-is) (found-here inv.so_far over (sym c.is_in_run.ensures ∙ w.if-is_in_run.true) gives.start)
       | else-is_in_run w ↦ rw (w.from-is, w.opened-is) (found-stays inv.so_far over (sym c.is_in_run.ensures ∙ w.if-is_in_run.false))
@@ -65,10 +65,10 @@ range-stretch-requires-clause-start_boundary c =
 
 pub returns-then-end-place : goal.returns-then-end-place
 returns-then-end-place c =
-    let inv = c.loop-item.invariant in
-    let gives = c.in-Some.ensures.steps in
+    let inv = c.loop-step.invariant in
+    let gives = c.in-Some.ensures.steps.gives in
     let over = over_text gives inv.text c.range-piece.ensures.value (kind_is_text c.if-eq.ensures) in
-    let found : (c.args.start ≡ 0) ⊎ (c.args.start < c.loop-item.place + length c.range-piece.result.now) → IsOpened c.args.text.now c.args.start c.if-is_in_run.from (rendition_of c.if-is_in_run.opened.style) c.if-is_in_run.opened.link.now
+    let found : (c.args.start ≡ 0) ⊎ (c.args.start < c.loop-step.place + length c.range-piece.result.now) → IsOpened c.args.text.now c.args.start c.if-is_in_run.from (rendition_of c.if-is_in_run.opened.style) c.if-is_in_run.opened.link.now
     = elim c.if-is_in_run.branch [
       | then-is_in_run w ↦ rw (w.from-is, w.opened-is) (found-here inv.so_far over (sym c.is_in_run.ensures ∙ w.if-is_in_run.true) gives.start)
       | else-is_in_run w ↦ rw (w.from-is, w.opened-is) (found-stays inv.so_far over (sym c.is_in_run.ensures ∙ w.if-is_in_run.false))
@@ -88,12 +88,12 @@ returns-then-end-place c =
     )
 
 -- over a run
-pub loop-item-preserved-then-eq : goal.loop-item-preserved-then-eq
-loop-item-preserved-then-eq c =
-    let inv = c.loop-item.invariant in
-    let gives = c.in-Some.ensures.steps in
+pub loop-step-preserved-then-eq : goal.loop-step-preserved-then-eq
+loop-step-preserved-then-eq c =
+    let inv = c.loop-step.invariant in
+    let gives = c.in-Some.ensures.steps.gives in
     let over = over_text gives inv.text c.range-piece.ensures.value (kind_is_text c.if-eq.ensures) in
-    let found : (c.args.start ≡ 0) ⊎ (c.args.start < c.loop-item.place + length c.range-piece.result.now) → IsOpened c.args.text.now c.args.start c.if-is_in_run.from (rendition_of c.if-is_in_run.opened.style) c.if-is_in_run.opened.link.now
+    let found : (c.args.start ≡ 0) ⊎ (c.args.start < c.loop-step.place + length c.range-piece.result.now) → IsOpened c.args.text.now c.args.start c.if-is_in_run.from (rendition_of c.if-is_in_run.opened.style) c.if-is_in_run.opened.link.now
     = elim c.if-is_in_run.branch [
       | then-is_in_run w ↦ rw (w.from-is, w.opened-is) (found-here inv.so_far over (sym c.is_in_run.ensures ∙ w.if-is_in_run.true) gives.start)
       | else-is_in_run w ↦ rw (w.from-is, w.opened-is) (found-stays inv.so_far over (sym c.is_in_run.ensures ∙ w.if-is_in_run.false))
@@ -106,10 +106,10 @@ loop-item-preserved-then-eq c =
     }
 
 -- over an SGR
-pub loop-item-preserved-then-eq-2 : goal.loop-item-preserved-then-eq-2
-loop-item-preserved-then-eq-2 c =
-    let inv = c.loop-item.invariant in
-    let gives = c.in-Some.ensures.steps in
+pub loop-step-preserved-then-eq-2 : goal.loop-step-preserved-then-eq-2
+loop-step-preserved-then-eq-2 c =
+    let inv = c.loop-step.invariant in
+    let gives = c.in-Some.ensures.steps.gives in
     let over = over_mark gives inv.text c.range-piece.ensures.value (kind_differs c.if-eq.ensures) in
     record {
       text = gives.text ∙ inv.text;
@@ -119,10 +119,10 @@ loop-item-preserved-then-eq-2 c =
     }
 
 -- over another sequence
-pub loop-item-preserved : goal.loop-item-preserved
-loop-item-preserved c =
-    let inv = c.loop-item.invariant in
-    let gives = c.in-Some.ensures.steps in
+pub loop-step-preserved : goal.loop-step-preserved
+loop-step-preserved c =
+    let inv = c.loop-step.invariant in
+    let gives = c.in-Some.ensures.steps.gives in
     let over = over_mark gives inv.text c.range-piece.ensures.value (kind_differs c.if-eq.ensures) in
     record {
       text = gives.text ∙ inv.text;
@@ -135,36 +135,36 @@ loop-item-preserved c =
 
 pub returns-then-place-start : goal.returns-then-place-start
 returns-then-place-start c =
-    let inv = c.loop-item.invariant in
+    let inv = c.loop-step.invariant in
     let none = c.in-None.ensures.steps.2 in
     let is_cell : IsAsciiCell c.args.text.now = record { ascii = c.requires.ascii; stay = inv.decides ∙ ap (list_all is_ascii_piece) none } in
     (ascii-stays c.args.text.now c.utf8.text is_cell.stay, ascii-none c.args.end is_cell (omega (arith, c.if-place-start.true, (closed-end inv.so_far none).0)))
 
 pub range-stretch-requires-2-clause-start_le_end : goal.range-stretch-requires-2-clause-start_le_end
 range-stretch-requires-2-clause-start_le_end c =
-    let so_far = c.loop-item.invariant.so_far in
+    let so_far = c.loop-step.invariant.so_far in
     let none = c.in-None.ensures.steps.2 in
-    let is_cell : IsAsciiCell c.args.text.now = record { ascii = c.requires.ascii; stay = c.loop-item.invariant.decides ∙ ap (list_all is_ascii_piece) none } in
+    let is_cell : IsAsciiCell c.args.text.now = record { ascii = c.requires.ascii; stay = c.loop-step.invariant.decides ∙ ap (list_all is_ascii_piece) none } in
     let end = closed-end so_far none in
-    let inside : c.args.start < c.loop-item.place = omega (arith, c.if-place-start.false) in
+    let inside : c.args.start < c.loop-step.place = omega (arith, c.if-place-start.false) in
     slice-ordered is_cell (omega (arith, c.if-end-start.false)) (omega (arith, inside, end.0)) (so_far.found (inr inside)) end.1
 
 pub range-stretch-requires-2-clause-start_boundary : goal.range-stretch-requires-2-clause-start_boundary
 range-stretch-requires-2-clause-start_boundary c =
-    let so_far = c.loop-item.invariant.so_far in
+    let so_far = c.loop-step.invariant.so_far in
     let none = c.in-None.ensures.steps.2 in
-    let is_cell : IsAsciiCell c.args.text.now = record { ascii = c.requires.ascii; stay = c.loop-item.invariant.decides ∙ ap (list_all is_ascii_piece) none } in
+    let is_cell : IsAsciiCell c.args.text.now = record { ascii = c.requires.ascii; stay = c.loop-step.invariant.decides ∙ ap (list_all is_ascii_piece) none } in
     let end = closed-end so_far none in
-    let inside : c.args.start < c.loop-item.place = omega (arith, c.if-place-start.false) in
+    let inside : c.args.start < c.loop-step.place = omega (arith, c.if-place-start.false) in
     λ _. slice-boundary is_cell (omega (arith, c.if-end-start.false)) (omega (arith, inside, end.0)) (so_far.found (inr inside)) end.1 (omega arith)
 
 pub returns : goal.returns
 returns c =
-    let so_far = c.loop-item.invariant.so_far in
+    let so_far = c.loop-step.invariant.so_far in
     let none = c.in-None.ensures.steps.2 in
-    let is_cell : IsAsciiCell c.args.text.now = record { ascii = c.requires.ascii; stay = c.loop-item.invariant.decides ∙ ap (list_all is_ascii_piece) none } in
+    let is_cell : IsAsciiCell c.args.text.now = record { ascii = c.requires.ascii; stay = c.loop-step.invariant.decides ∙ ap (list_all is_ascii_piece) none } in
     let end = closed-end so_far none in
-    let inside : c.args.start < c.loop-item.place = omega (arith, c.if-place-start.false) in (
+    let inside : c.args.start < c.loop-step.place = omega (arith, c.if-place-start.false) in (
       ascii-stays c.args.text.now c.utf8.text is_cell.stay,
       ascii-parts is_cell (omega (arith, c.if-end-start.false)) (omega (arith, inside, end.0)) (so_far.found (inr inside)) end.1 c.stretch-2.result
           (ap (λ (p : Pen). rendition_of p.style) c.stretch-2.ensures.opened) (ap (λ (p : Pen). p.link.now) c.stretch-2.ensures.opened) (ap (λ (p : Pen). rendition_of p.style) c.stretch-2.ensures.closed) (ap (λ (p : Pen). p.link.now) c.stretch-2.ensures.closed)

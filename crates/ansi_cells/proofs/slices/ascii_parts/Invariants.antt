@@ -10,10 +10,10 @@ use Rattle.ansi_cells.proofs.AsciiSliceLemmas.{IsSliceSoFar}
 use Rattle.ansi_cells.proofs.slices.ascii_parts.Given as goal
 
 -- how far the pass has come to both edges
-abbrev pub invariant-loop-item : goal.invariant-loop-item
-invariant-loop-item l = record {
-  text : l.item-iterator.text ≡ l.text;
-  so_far : IsSliceSoFar l.text l.start l.end l.from l.place l.item-iterator.offset (rendition_of l.opened.style) l.opened.link.now (rendition_of l.style) l.link (pieces_left l.item-iterator);
-  decides : list_all is_ascii_piece (pieces_of l.text) ≡ list_all is_ascii_piece (pieces_left l.item-iterator);
+abbrev pub invariant-loop-step : goal.invariant-loop-step
+invariant-loop-step l = record {
+  text : l.step-iterator.text ≡ l.text;
+  so_far : IsSliceSoFar l.text l.start l.end l.from l.place l.step-iterator.offset (rendition_of l.opened.style) l.opened.link.now (rendition_of l.style) l.link (pieces_left l.step-iterator);
+  decides : list_all is_ascii_piece (pieces_of l.text) ≡ list_all is_ascii_piece (pieces_left l.step-iterator);
   link_is_text : shadow (Utf8 l.link);
 }

@@ -6,8 +6,8 @@ use Rattle.ansi_cells.specs.Slices.{is_ascii_piece}
 use Rattle.ansi_cells.proofs.slices.items_stay.Given as goal
 
 -- what is left decides
-abbrev pub invariant-loop-item : goal.invariant-loop-item
-invariant-loop-item l = record {
-  text : l.item-iterator.text ≡ l.text;
-  decides : list_all is_ascii_piece (pieces_of l.text) ≡ list_all is_ascii_piece (pieces_left l.item-iterator);
+abbrev pub invariant-loop-step : goal.invariant-loop-step
+invariant-loop-step l = record {
+  text : l.step-iterator.text ≡ l.text;
+  decides : list_all is_ascii_piece (pieces_of l.text) ≡ list_all is_ascii_piece (pieces_left l.step-iterator);
 }

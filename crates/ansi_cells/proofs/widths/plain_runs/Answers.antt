@@ -17,76 +17,64 @@ use Rattle.ansi_clusters.specs.Walks.{IsCountedTo, walk_at_run}
 use Rattle.ansi_clusters.proofs.ColumnLemmas.{counted-begin}
 use Rattle.ansi_clusters.proofs.PrintableLemmas.{counted-clusters}
 use Rattle.ansi_cells.proofs.PlainTextLemmas.{ArePlainSoFar, plain-begin, plain-run, plain-mark, plain-within, plain-columns, run-utf8, walk-plain, counted-ending, counted-run, counted-first}
-use Rattle.ansi_cells.proofs.widths.plain_runs.Goals.{then-item-eq0, else-item-eq0, else-position-gt0-via-then-position-gt0+else-not-ends_ascii, else-position-gt0-via-else-position-gt0}
+use Rattle.ansi_cells.proofs.widths.plain_runs.Goals.{else-position-gt0-via-then-position-gt0+else-not-ends_ascii, else-position-gt0-via-else-position-gt0}
 use Rattle.ansi_cells.proofs.widths.plain_runs.Goals as goal
 
-pub loop-item-init : goal.loop-item-init
-loop-item-init c =
+pub loop-step-init : goal.loop-step-init
+loop-step-init c =
     let t = c.args.text.now in
-    let start = c.into_iter-item-iterator.result in
-    let begins : start ≡ record { text = t; offset = 0 } = c.into_iter-item-iterator.ensures.into_iter_gives ∙ c.new-item-items.ensures.start in
+    let start = c.into_iter-step-iterator.result in
+    let begins : start ≡ record { text = t; offset = 0 } = c.into_iter-step-iterator.ensures.into_iter_gives ∙ c.new-step-items.ensures in
     record {
       text = ap (λ s. s.text) begins;
       so_far = subst (λ s. ArePlainSoFar t 0 0 s.offset (pieces_left s)) (sym begins) (plain-begin t);
     }
 
 -- over a sequence or a lone escape
-pub loop-item-preserved-then-ne : goal.loop-item-preserved-then-ne
-loop-item-preserved-then-ne c =
-    let gives = c.in-Some.ensures.steps in
-    let inv = c.loop-item.invariant in
+pub loop-step-preserved-then-ne : goal.loop-step-preserved-then-ne
+loop-step-preserved-then-ne c =
+    let gives = c.in-Some.ensures.steps.gives in
+    let inv = c.loop-step.invariant in
     record {
       text = gives.text ∙ inv.text;
       so_far = plain-mark inv.so_far (over_mark gives inv.text refl (λ e. (let same = c.if-ne.ensures ∙ ap (λ k. not (sameb the_type k TextKind)) e in cc)));
     }
 
 -- over a run
-pub loop-item-preserved : goal.loop-item-preserved
-loop-item-preserved c =
+pub loop-step-preserved : goal.loop-step-preserved
+loop-step-preserved c =
     let t = c.args.text.now in
-    let gives = c.in-Some.ensures.steps in
-    let inv = c.loop-item.invariant in
-    let item = c.in-Some.item in
+    let gives = c.in-Some.ensures.steps.gives in
+    let inv = c.loop-step.invariant in
+    let item = c.in-Some.step.item in
     let kind : item.kind ≡ TextKind = kind_is_text (sym (not-false _ (sym c.if-ne.ensures))) in
     let range = item_range gives inv.text in
     let front : IsPlainFront (slice_range t item.start item.end) c.plain_part-len.result.0 c.plain_part-len.result.1 = c.plain_part-len.ensures in
     let size : length (slice_range t item.start item.end) ≡ item.end - item.start = length-slice_range t item.start item.end (omega (arith, range)) (omega (arith, range)) in
-    let whole : c.plain_part-len.result.0 ≡ length (slice_range t item.start item.end) = omega (arith, front.boundary.0, size, c.if-len-item.false) in
+    let whole : c.plain_part-len.result.0 ≡ length (slice_range t item.start item.end) = omega (arith, front.boundary.0, size, c.if-len-step.false) in
     record {
       text = gives.text ∙ inv.text;
-      so_far = plain-run inv.so_far (over_text gives inv.text refl kind) (run-utf8 (walk_at_run c.loop-item.position item.start item.end) c.utf8.text inv.so_far gives inv.text kind refl) front whole refl refl;
+      so_far = plain-run inv.so_far (over_text gives inv.text refl kind) (run-utf8 (walk_at_run c.loop-step.position item.start item.end) c.utf8.text inv.so_far gives inv.text kind refl) front whole refl refl;
     }
-
--- the first run begins with what the text begins with
-pub plain_part-len-requires-clause-printable : goal.plain_part-len-requires-clause-printable
-plain_part-len-requires-clause-printable c =
-    let t = c.args.text.now in
-    let item = c.in-Some.item in
-    elim c.if-item-eq0.branch [
-      | then-item-eq0 w ↦ (
-          let front : slice_range t item.start item.end ≡ take (item.end - item.start) t = ap (λ n. take (item.end - item.start) (drop n t)) w.if-item-eq0.true in
-          omega (arith, w.near-is, c.requires, ap (prefix_len is_printable) front, prefix_len-take is_printable (item.end - item.start) t))
-      | else-item-eq0 w ↦ ap (λ n. min n (item.end - item.start)) w.near-is ∙ w.printable_near-near.ensures
-    ]
 
 pub overflow_add-position : goal.overflow_add-position
 overflow_add-position c =
     let t = c.args.text.now in
     let size : length t < 2 ^ 63 = search rules in
-    omega (arith, size, plain-within (loop-item-preserved c).so_far)
+    omega (arith, size, plain-within (loop-step-preserved c).so_far)
 
 pub overflow_add-columns : goal.overflow_add-columns
 overflow_add-columns c =
     let t = c.args.text.now in
     let size : length t < 2 ^ 63 = search rules in
-    omega (arith, size, plain-within (loop-item-preserved c).so_far)
+    omega (arith, size, plain-within (loop-step-preserved c).so_far)
 
 -- at a run with another character
 
 pub ends_ascii-requires : goal.ends_ascii-requires
 ends_ascii-requires c =
-    let inv = c.loop-item.invariant in
-    (Given, walk-plain _ c.utf8.text inv.so_far c.in-Some.ensures.steps inv.text (kind_is_text (sym (not-false _ (sym c.if-ne.ensures)))) c.at_run-run.ensures Given)
+    let inv = c.loop-step.invariant in
+    (Given, walk-plain _ c.utf8.text inv.so_far c.in-Some.ensures.steps.gives inv.text (kind_is_text (sym (not-false _ (sym c.if-ne.ensures)))) c.at_run-run.ensures Given)
 
 pub returns-then-not-ends_ascii : goal.returns-then-not-ends_ascii
 returns-then-not-ends_ascii c =
@@ -95,24 +83,24 @@ returns-then-not-ends_ascii c =
 
 pub past_plain-more-requires-clause-walk : goal.past_plain-more-requires-clause-walk
 past_plain-more-requires-clause-walk c =
-    let inv = c.loop-item.invariant in
-    (Given, walk-plain _ c.utf8.text inv.so_far c.in-Some.ensures.steps inv.text (kind_is_text (sym (not-false _ (sym c.if-ne.ensures)))) c.at_run-run.ensures Given)
+    let inv = c.loop-step.invariant in
+    (Given, walk-plain _ c.utf8.text inv.so_far c.in-Some.ensures.steps.gives inv.text (kind_is_text (sym (not-false _ (sym c.if-ne.ensures)))) c.at_run-run.ensures Given)
 
 pub returns-then-len-eq0 : goal.returns-then-len-eq0
 returns-then-len-eq0 c =
-    let inv = c.loop-item.invariant in
-    let gives = c.in-Some.ensures.steps in
+    let inv = c.loop-step.invariant in
+    let gives = c.in-Some.ensures.steps.gives in
     let kind = kind_is_text (sym (not-false _ (sym c.if-ne.ensures))) in
     elim c.else-position-gt0.branch [
       | else-position-gt0-via-then-position-gt0+else-not-ends_ascii w ↦ counted-ending _ c.utf8.text inv.so_far gives inv.text kind c.at_run-run.ensures (w.ends_ascii.ensures w.if-not-ends_ascii.false)
       | else-position-gt0-via-else-position-gt0 w ↦ counted-first _ c.utf8.text inv.so_far gives inv.text kind c.at_run-run.ensures (omega (arith, w.if-position-gt0.false)) (omega (arith, w.if-position-gt0.false, plain-within inv.so_far))
     ]
 
-pub returns-then-len-item : goal.returns-then-len-item
-returns-then-len-item c =
-    let inv = c.loop-item.invariant in
+pub returns-then-len-step : goal.returns-then-len-step
+returns-then-len-step c =
+    let inv = c.loop-step.invariant in
     let kind = kind_is_text (sym (not-false _ (sym c.if-ne.ensures))) in
-    let here = counted-run _ c.utf8.text inv.so_far c.in-Some.ensures.steps inv.text kind c.at_run-run.ensures c.plain_part-len.ensures (omega (arith, c.if-len-eq0.false)) in
+    let here = counted-run _ c.utf8.text inv.so_far c.in-Some.ensures.steps.gives inv.text kind c.at_run-run.ensures c.plain_part-len.ensures (omega (arith, c.if-len-eq0.false)) in
     record {
       is_walk = λ view. (c.past_plain-more.ensures view (here.is_walk view)).walk;
       counted = λ view. counted-clusters (c.past_plain-more.ensures view (here.is_walk view)) (here.counted view);
@@ -122,8 +110,8 @@ pub overflow_add-result : goal.overflow_add-result
 overflow_add-result c =
     let t = c.args.text.now in
     let size : length t < 2 ^ 63 = search rules in
-    let later = returns-then-len-item c in
+    let later = returns-then-len-step c in
     omega (arith, size, length-plain t, (later.counted Given).bound, (later.is_walk Given).within)
 
 pub returns : goal.returns
-returns c view = plain-columns view c.utf8.text c.loop-item.invariant.so_far c.in-None.ensures.steps.2
+returns c view = plain-columns view c.utf8.text c.loop-step.invariant.so_far c.in-None.ensures.steps.2

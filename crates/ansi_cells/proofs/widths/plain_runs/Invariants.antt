@@ -4,8 +4,8 @@ use Rattle.ansi_cells.proofs.PlainTextLemmas.{ArePlainSoFar}
 use Rattle.ansi_cells.proofs.widths.plain_runs.Given as goal
 
 -- the runs passed are characters that are clusters by themselves beside each other
-abbrev pub invariant-loop-item : goal.invariant-loop-item
-invariant-loop-item l = record {
-  text : l.item-iterator.text ≡ l.text;
-  so_far : ArePlainSoFar l.text l.columns l.position l.item-iterator.offset (pieces_left l.item-iterator);
+abbrev pub invariant-loop-step : goal.invariant-loop-step
+invariant-loop-step l = record {
+  text : l.step-iterator.text ≡ l.text;
+  so_far : ArePlainSoFar l.text l.columns l.position l.step-iterator.offset (pieces_left l.step-iterator);
 }
