@@ -1,6 +1,5 @@
 -- Truncated and padded texts, ready for display: the style and link still open at their end are closed.
 use Rattle.std.specs.Prelude.{◌≡◌, ℕ, ◌+◌, ◌-◌, ◌/◌, Bool, not, ◌&&◌, List, [], ◌∷◌, ◌++◌, length, map, chars, encode_utf8, encode_utf8_all, nat_le, if◌then◌else◌}
-use Rattle.std.specs.Str.{byte}
 use Rattle.std.specs.Cow.{cow_str_bytes, IsBorrowedStr}
 use Rattle.ansi_items.specs.Plain.{plain, marks, marks_up_to}
 use Rattle.ansi_style.specs.Rendition.{plain_style}

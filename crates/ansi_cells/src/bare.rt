@@ -7,6 +7,7 @@ ghost use Rattle.ansi_cells.specs.Fitted.{fitted};
 ghost use Rattle.ansi_cells.specs.Shown.{truncated, padded, between_blanks};
 
 use crate::plain_cells::{bare_front, is_printable};
+use crate::shown::is_ellipsis;
 
 /// A text of printable ASCII and a tail, and how many columns they lack.
 #[derive(Clone, Copy)]
@@ -70,11 +71,7 @@ fn cut_bare<'t>(text: &'t str, width: usize, tail: &str) -> Option<&'t str>
 {
     // The byte after the one that doesn't fit shows that that is a cluster by itself.
     let after = width.checked_add(2)?;
-    if after <= text.len()
-        && 0 < width
-        && tail.as_bytes() == "…".as_bytes()
-        && is_printable(text, 0, after)
-    {
+    if after <= text.len() && 0 < width && is_ellipsis(tail) && is_printable(text, 0, after) {
         return Some(&text[..width - 1]);
     }
     None

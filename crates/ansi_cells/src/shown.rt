@@ -1,6 +1,6 @@
 //! Truncated and padded texts, ready for display: the style and link still open at their end are
 //! closed.
-ghost use Rattle.std.specs.Prelude.{◌≡◌, ◌≢◌, ◌↔◌, ◌+◌, ◌≤◌, ◌++◌, ℕ, List, [], length, chars};
+ghost use Rattle.std.specs.Prelude.{◌≡◌, ◌≢◌, ◌↔◌, ◌+◌, ◌≤◌, ◌∷◌, ◌++◌, ℕ, List, [], length, chars};
 ghost use Rattle.std.specs.Prelude.{IsOk, IfOk, OnOk, IfSome, IsTrue, true, false, nat_le};
 ghost use Rattle.std.specs.Prelude.{if◌then◌else◌, string_bytes, slice_range};
 ghost use Rattle.std.specs.List.{list_all};
@@ -178,7 +178,15 @@ pub fn closed_cell<'t, A: Allocator + Copy>(
 fn is_usual_tail(text: &str) -> bool
     ensures { IsTrue result → closed_cell text.now ≡ text.now }
 {
-    text == "…" || printable_len(text.as_bytes()) == text.len()
+    is_ellipsis(text) || printable_len(text.as_bytes()) == text.len()
+}
+
+/// Whether a text is `…`, as most tails are. (The bytes are compared, so that it is no call.)
+#[inline(always)]
+pub(crate) fn is_ellipsis(text: &str) -> bool
+    ensures { IsTrue result → text.now ≡ 0xE2 ∷ 0x80 ∷ 0xA6 ∷ [] }
+{
+    text.as_bytes() == "…".as_bytes()
 }
 
 /// A text that is ready for display and not joined yet: the text of a cell, what ends its pen and a
@@ -427,7 +435,7 @@ fn longest(text: &str, width: usize, from: Fitted) -> (Fitted, bool)
 pub(crate) fn tail_width(tail: &str) -> usize
     ensures { result ≡ columns (plain tail.now) }
 {
-    if tail == "…" {
+    if is_ellipsis(tail) {
         return 1;
     }
     widths::width(tail, View::Given)
@@ -469,7 +477,7 @@ fn is_apart(walk: Walk, tail: &str) -> bool
         walk.break_state ≡ break_state_of before →
         is_grapheme_break true before (chars tail.now) ≡ true }
 {
-    if tail == "…" {
+    if is_ellipsis(tail) {
         return walk.break_state.ends_before('…');
     }
     if first_run(tail) != (0, tail.len()) {

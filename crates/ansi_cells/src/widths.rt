@@ -18,6 +18,7 @@ use ansi_safe::printable::printable_len;
 pub fn width(text: &str, view: View) -> usize
     ensures { result ≡ columns (seen_text view text.now) }
 {
+    // Most texts are such ones. Of one that isn't, the front is read again, so it has to be short.
     if text.len() <= LONGEST && printable_front(text) == text.len() {
         return text.len();
     }

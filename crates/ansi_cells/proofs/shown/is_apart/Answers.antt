@@ -1,9 +1,7 @@
 use Rattle.std.proofs.Common.{◌≡◌, ◌≢◌, ℕ, true, List, [], ◌∷◌, refl, sym, ◌∙◌, ap, arith}
 use Rattle.std.specs.Str.{chars}
 use Rattle.std.specs.List.{list_all}
-use Rattle.std.proofs.lemmas.Bool.Decides.{Decides-eqb}
 use Rattle.std.proofs.lemmas.List.{nil_from_length}
-use Rattle.std.proofs.lemmas.Slice.Eq.{slice_eq-Decides}
 use Rattle.std.proofs.lemmas.Str.{chars-nil, chars_past_char}
 use Rattle.unicode_segmentation.specs.Grapheme.{is_grapheme_break}
 use Rattle.ansi_items.specs.Bytes.{is_plain_byte}
@@ -16,14 +14,14 @@ chars-ellipsis : chars (0xE2 ∷ 0x80 ∷ 0xA6 ∷ []) ≡ 0x2026 ∷ []
 unfolding chars
 chars-ellipsis = refl
 
-pub returns-then-eq-clause-bare : goal.returns-then-eq-clause-bare
-returns-then-eq-clause-bare c =
-    let is = (slice_eq-Decides Decides-eqb c.args.tail.now (0xE2 ∷ 0x80 ∷ 0xA6 ∷ []) _ c.eq.ensures).0 c.if-eq.true in
+pub returns-then-is_ellipsis-clause-bare : goal.returns-then-is_ellipsis-clause-bare
+returns-then-is_ellipsis-clause-bare c =
+    let is = c.is_ellipsis.ensures c.if-is_ellipsis.true in
     λ _. ap (list_all is_plain_byte) is
 
-pub returns-then-eq-clause-breaks : goal.returns-then-eq-clause-breaks
-returns-then-eq-clause-breaks c =
-    let is = (slice_eq-Decides Decides-eqb c.args.tail.now (0xE2 ∷ 0x80 ∷ 0xA6 ∷ []) _ c.eq.ensures).0 c.if-eq.true in
+pub returns-then-is_ellipsis-clause-breaks : goal.returns-then-is_ellipsis-clause-breaks
+returns-then-is_ellipsis-clause-breaks c =
+    let is = c.is_ellipsis.ensures c.if-is_ellipsis.true in
     λ holds before some state. ap (is_grapheme_break true before) (ap chars is ∙ chars-ellipsis) ∙ sym (c.ends_before.ensures before [] some state) ∙ holds
 
 -- another tail

@@ -1,8 +1,5 @@
-use Rattle.std.proofs.Common.{◌≡◌, ◌-◌, ◌<◌, ◌^◌, min, not, length, take, drop, slice_range, refl, sym, ◌∙◌, ap, subst, arith, rules}
-use Rattle.std.specs.List.{prefix_len}
+use Rattle.std.proofs.Common.{◌≡◌, ◌-◌, ◌<◌, ◌^◌, not, length, slice_range, refl, sym, ◌∙◌, ap, subst, arith, rules}
 use Rattle.std.proofs.lemmas.Bool.{not-false}
-use Rattle.ansi_safe.proofs.FrontLemmas.{prefix_len-take}
-use Rattle.ansi_clusters.proofs.AsciiLemmas.{is_printable}
 use denote.Enum.Bare.{sameb}
 use Rattle.ansi_items.specs.contracts.ansitok.Kind.{the_type}
 use Rattle.ansi_items.specs.declared.ansitok.Kind.TheVariants.{Text as TextKind}

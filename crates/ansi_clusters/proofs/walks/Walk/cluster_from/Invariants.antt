@@ -1,5 +1,4 @@
 use Rattle.std.proofs.Common.{◌*◌, ◌-◌, ◌≤◌, length}
-use Rattle.ansi_clusters.specs.Columns.{cluster_width}
 use Rattle.ansi_items.specs.Plain.{plain}
 use Rattle.ansi_clusters.specs.Views.{IsTight}
 use Rattle.ansi_clusters.specs.Walks.{IsWalkIn, seen_cluster}

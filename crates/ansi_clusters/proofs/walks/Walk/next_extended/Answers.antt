@@ -1,4 +1,4 @@
-use Rattle.std.proofs.Common.{◌≡◌, ◌≢◌, ℕ, ◌+◌, ◌^◌, ◌<◌, ◌-◌, Some, [], length, encode_utf8, slice_range, sym, ◌∙◌, ap, ap₂, subst, arith, rules, length-append}
+use Rattle.std.proofs.Common.{◌≡◌, ◌≢◌, ℕ, ◌+◌, ◌^◌, ◌<◌, Some, [], length, encode_utf8, slice_range, sym, ◌∙◌, ap, ap₂, subst, arith, rules, length-append}
 use Rattle.unicode_segmentation.proofs.TextLemmas.{encode_utf8_nonempty}
 use Rattle.ansi_items.proofs.PlainLemmas.{length-plain}
 use Rattle.ansi_search.proofs.SliceLemmas.{length-slice_range}
