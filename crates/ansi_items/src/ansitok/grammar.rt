@@ -3,7 +3,7 @@
 //!
 //! `memchr` finds the next ESC after each mark, and an attempt at a sequence never passes it. So a
 //! scan takes at most three looks for each byte.
-ghost use Rattle.std.specs.Prelude.{◌≡◌, ◌≤◌, ◌<◌, length, take, drop, slice_index};
+ghost use Rattle.std.specs.Prelude.{◌≡◌, ◌≢◌, ◌+◌, ◌≤◌, ◌<◌, length, take, drop, slice_index};
 ghost use Rattle.std.specs.List.{prefix_len};
 ghost use Rattle.ansi_items.specs.Bytes.{escape, is_parameter_byte};
 ghost use Rattle.ansi_items.specs.Fronts.{front_at};
@@ -65,15 +65,22 @@ fn front_of_mark(text: &[u8], start: usize) -> Front
     }
 }
 
-/// The same, of any ESC.
+/// The same, if the ESC begins no control sequence.
 #[inline(never)]
 fn front_of_other(text: &[u8], start: usize) -> Front
     requires inside { start < length text.now }
     requires escape { slice_index text.now start ≡ escape }
+    requires other { slice_index text.now (start + 1) ≢ 0x5B }
     ensures { result ≡ front_at (drop start text.now) }
 {
     let mut looks = Looks { count: 0 };
-    looks.mark(text, start).0
+    match looks.byte(text, start + 1) {
+        Some(opener @ (b']' | b'P' | b'X' | b'^' | b'_')) => {
+            looks.string_front(text, start, opener).0.unwrap_or(LONE)
+        }
+        Some(0x20..=0x7E) => looks.escape_sequence(&text[start + 1..]).unwrap_or(LONE),
+        Some(_) | None => LONE,
+    }
 }
 
 /// A count of looks at the bytes of a text, each byte as often as it is looked at.
@@ -162,16 +169,40 @@ impl Looks {
         ensures few { self.new.count + 3 * start + 2
             ≤ self.old.count + 2 * result.1 + min (result.1 + 1) (length text.now) }
     {
-        let escape = self.next_escape(text, start + 2);
-        let body = &text[start + 2..escape];
-        let after = &text[escape..];
-        match self.whole_string(opener, body, after) {
-            None => (LONE, escape),
-            Some(string) => {
+        match self.string_front(text, start, opener) {
+            (None, escape) => (LONE, escape),
+            (Some(string), escape) => {
                 let end = start + string.len;
                 (string, self.escape_after(text, escape, end))
             }
         }
+    }
+
+    /// The control string that the ESC at `start` and this opener begin, if it is whole, and the
+    /// place of the next ESC after the opener.
+    #[inline(always)]
+    fn string_front(&mut self, text: &[u8], start: usize, opener: u8) -> (Option<Front>, usize)
+        requires inside { start + 1 < length text.now }
+        requires escape { slice_index text.now start ≡ escape }
+        requires opener { opener ≡ slice_index text.now (start + 1) }
+        requires opens { IsTrue (opens_control_string opener) }
+        requires room { self.old.count + 4 * length text.now + 4 < 2 ^ 128 }
+        ensures front { unwrap_or result.0 (front_of Lone 1) ≡ front_at (drop start text.now) }
+        ensures place { result.1 ≡ start + 2 + before_escape (drop (start + 2) text.now) }
+        ensures bound { result.1 ≤ length text.now }
+        ensures end { IfSome result.0 (λ f. (1 ≤ f.len) × (start + f.len ≤ result.1 + 2)
+            × (start + f.len ≤ length text.now)) }
+        ensures found { IfSome result.0 (λ _.
+            self.old.count + min (result.1 + 1) (length text.now) + 1 ≤ self.new.count + start + 2) }
+        ensures each { self.old.count + min (result.1 + 1) (length text.now)
+            ≤ self.new.count + start + 2 }
+        ensures few { self.new.count + 2 * start + 3
+            ≤ self.old.count + result.1 + min (result.1 + 1) (length text.now) }
+    {
+        let escape = self.next_escape(text, start + 2);
+        let body = &text[start + 2..escape];
+        let after = &text[escape..];
+        (self.whole_string(opener, body, after), escape)
     }
 
     /// The control string whose bytes up to the next ESC, after its opener, are `body`.
