@@ -1,41 +1,54 @@
 //! The width of a text.
 ghost use Rattle.std.specs.Prelude.{◌≡◌, MatchOption};
+ghost use Rattle.std.specs.List.{prefix_len};
+ghost use Rattle.ansi_safe.specs.Safe.{is_printable_byte};
 ghost use Rattle.ansi_clusters.specs.declared.views.View.{View};
 ghost use Rattle.ansi_clusters.specs.Columns.{columns};
 ghost use Rattle.ansi_clusters.specs.Views.{seen_text};
 ghost use Rattle.ansi_clusters.specs.Walks.{IsWalkIn, IsCounted, IsCountedTo};
 
-use crate::plain_cells::plain_part;
+use crate::plain_cells::{LONGEST, plain_part};
 use ansi_clusters::steps::Steps;
 use ansi_clusters::views::View;
 use ansi_clusters::walks::Walk;
 use ansi_items::ansitok::Kind;
+use ansi_safe::printable::printable_len;
 
 /// The columns of what is seen of a text.
 pub fn width(text: &str, view: View) -> usize
     ensures { result ≡ columns (seen_text view text.now) }
 {
-    let steps = Steps::new(text);
-    if steps.printable() == text.len() {
+    // Most texts are such ones. Of one that isn't, the front is read again, so it has to be short.
+    if text.len() <= LONGEST && printable_front(text) == text.len() {
         return text.len();
     }
-    match plain_runs(text, steps) {
+    match plain_runs(text) {
         (columns, None) => columns,
         (columns, Some(next)) => walked_width(text, view, next, columns),
+    }
+}
+
+/// How many bytes of printable ASCII a text begins with.
+#[inline(always)]
+fn printable_front(text: &str) -> usize
+    ensures { result ≡ prefix_len is_printable_byte text.now }
+{
+    match text.as_bytes() {
+        [0x20..=0x7E, ..] => printable_len(text.as_bytes()),
+        _ => 0,
     }
 }
 
 /// The columns of the characters of a text that are clusters by themselves beside each other, up to another
 /// one, and the walk before the last of them. If the other one may join a character before a sequence, they
 /// are none, and the walk is at the beginning.
-fn plain_runs(text: &str, steps: Steps<'_>) -> (usize, Option<Walk>)
-    requires { steps ≡ record { text = text.now; offset = 0 } }
+fn plain_runs(text: &str) -> (usize, Option<Walk>)
     ensures { MatchOption result.1 ((view : View) → result.0 ≡ columns (seen_text view text.now))
         (IsCounted text.now result.0) }
 {
     let mut position = 0;
     let mut columns = 0;
-    for step in steps {
+    for step in Steps::new(text) {
         if step.item.kind != Kind::Text {
             continue;
         }

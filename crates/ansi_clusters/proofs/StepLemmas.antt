@@ -9,13 +9,12 @@ use Rattle.ansi_items.specs.Bytes.{escape, is_plain_byte}
 use Rattle.ansi_items.specs.Counts.{before_escape}
 use Rattle.ansi_items.specs.declared.ansitok.Kind.TheVariants.{Text as TextKind}
 use Rattle.ansi_items.specs.Fronts.{front_of}
-use Rattle.ansi_items.proofs.EscapeLemmas.{at_next}
 use Rattle.ansi_items.proofs.ScanLemmas.{step_gives, text_step}
 use Rattle.ansi_search.proofs.SliceLemmas.{length-slice_range}
 use Rattle.ansi_safe.specs.Safe.{is_printable_byte}
 use Rattle.ansi_safe.proofs.FrontLemmas.{prefix_len-take}
 use Rattle.ansi_clusters.specs.declared.steps.Step.{Step}
-use Rattle.ansi_clusters.specs.Steps.{IsReading, IsStepOf, GivesStep}
+use Rattle.ansi_clusters.specs.Steps.{IsStepOf, GivesStep}
 
 -- printable ASCII has no ESC
 printable-plain : (b : ℕ) → is_printable_byte b ≡ true → is_plain_byte b ≡ true
@@ -42,43 +41,28 @@ pub escape-first : (xs : List ℕ) → slice_index xs 0 ≡ escape → before_es
 escape-first [] is = refl
 escape-first (x ∷ xs) is = ap (λ b. if is_plain_byte b then 1 + before_escape xs else 0) is
 
--- the rest of the bytes is that of the text
-rest-of : (t bytes : List ℕ) (offset : ℕ) → bytes ≡ t → drop offset t ≡ take (length bytes - offset) (drop offset bytes)
-rest-of t bytes offset same = ap (drop offset) (sym same) ∙ sym (take_rest bytes offset)
-
-pub printable-rest : (t bytes : List ℕ) (offset printable : ℕ) → bytes ≡ t → IsReading t offset printable → printable ≡ prefix_len is_printable_byte (take (length bytes - offset) (drop offset bytes))
-printable-rest t bytes offset printable same reading = reading.printable_is ∙ ap (prefix_len is_printable_byte) (rest-of t bytes offset same)
-
-pub reading-rest : (t bytes : List ℕ) (offset printable : ℕ) → bytes ≡ t → IsCharBoundary t offset → printable ≡ prefix_len is_printable_byte (take (length bytes - offset) (drop offset bytes)) → IsReading t offset printable
-reading-rest t bytes offset printable same boundary is = record { boundary = boundary; printable_is = is ∙ sym (ap (prefix_len is_printable_byte) (rest-of t bytes offset same)) }
-
--- what a reader gives of a run, and what comes next then: no printable ASCII
-pub run-gives : (t bytes : List ℕ) (offset printable len : ℕ) → bytes ≡ t → IsUtf8 t → IsReading t offset printable → offset ≢ length bytes → slice_index bytes offset ≢ escape
-    → len ≡ before_escape (take (length bytes - offset) (drop offset bytes))
+-- what a reader gives of a run
+pub run-gives : (t bytes : List ℕ) (offset printable len : ℕ) → bytes ≡ t → IsUtf8 t → IsCharBoundary t offset → offset ≢ length bytes → slice_index bytes offset ≢ escape
+    → printable ≡ prefix_len is_printable_byte (take (length bytes - offset) (drop offset bytes)) → len ≡ before_escape (take (length bytes - offset) (drop offset bytes))
     → GivesStep (record { text = t; offset = offset }) (record { item = record { kind = TextKind; start = offset; end = offset + len }; printable = printable }) (record { text = t; offset = offset + len })
-    × IsReading t (offset + len) 0
-run-gives t bytes offset printable len same utf8 reading more other len_is =
-    let here = reading.boundary in
-    let whole : len ≡ before_escape (drop offset t) = len_is ∙ sym (ap before_escape (rest-of t bytes offset same)) in
+run-gives t bytes offset printable len same utf8 here more other printable_is len_is =
+    let rest : take (length bytes - offset) (drop offset bytes) ≡ drop offset t = take_rest bytes offset ∙ ap (drop offset) same in
+    let front : printable ≡ prefix_len is_printable_byte (drop offset t) = printable_is ∙ ap (prefix_len is_printable_byte) rest in
+    let whole : len ≡ before_escape (drop offset t) = len_is ∙ ap before_escape rest in
     let inside : offset < length t = omega (arith, here.0, more, ap length same) in
     let plain : is_plain_byte (slice_index t offset) ≡ true = ap (λ b. is_plain_byte (slice_index b offset)) (sym same) ∙ plain-unless (slice_index bytes offset) other in
     let some : before_escape (drop offset t) ≡ 1 + before_escape (drop (offset + 1) t) = prefix_len-drop_yes is_plain_byte t offset 0 inside plain in
+    let size : offset + len - offset ≡ len = omega arith in
     let gives = step_gives t offset (offset + len) (front_of TextKind (offset + len - offset)) here (text_step t offset (offset + len) utf8 here (omega (arith, whole)) (omega (arith, whole, some))) (omega arith) in
-    let none : before_escape (drop (offset + len) t) ≡ 0 = at_next t offset (offset + len) (omega (arith, whole)) in (
-      record {
-        gives = gives;
-        is_step = record {
-          ordered = omega arith;
-          start = here;
-          end = gives.end_boundary;
-          printable = omega (arith, reading.printable_is, whole, escape-past (drop offset t), prefix_len-take is_printable_byte (offset + len - offset) (drop offset t));
-        };
-      },
-      record {
-        boundary = gives.end_boundary;
-        printable_is = omega (arith, none, escape-past (drop (offset + len) t));
-      },
-    )
+    record {
+      gives = gives;
+      is_step = record {
+        ordered = omega arith;
+        start = here;
+        end = gives.end_boundary;
+        printable = omega (arith, front, whole, escape-past (drop offset t), prefix_len-take is_printable_byte (offset + len - offset) (drop offset t));
+      };
+    }
   where
     plain-unless : (b : ℕ) → b ≢ escape → is_plain_byte b ≡ true
     plain-unless b other = grind (arith, nat_tests, other)

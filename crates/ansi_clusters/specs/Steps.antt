@@ -1,5 +1,5 @@
 -- The steps in which a text is read: its items, as a scanner gives them, and how many bytes of printable ASCII each begins with.
-use Rattle.std.specs.Prelude.{◌≡◌, ℕ, ◌≤◌, List, Option, Some, None, drop, slice_range}
+use Rattle.std.specs.Prelude.{◌≡◌, ℕ, ◌≤◌, List, Option, Some, None, slice_range}
 use Rattle.std.specs.List.{prefix_len}
 use Rattle.std.specs.Str.{IsCharBoundary}
 use Rattle.ansi_items.specs.Scans.{Scan, GivesItem, Scans}
@@ -12,11 +12,6 @@ pub record IsStepOf (t : List ℕ) (step : Step) : Type 0 where
   pub start : IsCharBoundary t step.item.start
   pub end : IsCharBoundary t step.item.end
   pub printable : step.printable ≡ prefix_len is_printable_byte (slice_range t step.item.start step.item.end)
-
--- a reader at this offset of the text knows how many bytes of printable ASCII come next
-pub record IsReading (t : List ℕ) (offset printable : ℕ) : Type 0 where
-  pub boundary : IsCharBoundary t offset
-  pub printable_is : printable ≡ prefix_len is_printable_byte (drop offset t)
 
 -- a reader gave a step: the item that comes next
 pub record GivesStep (old : Scan) (step : Step) (new : Scan) : Type 0 where

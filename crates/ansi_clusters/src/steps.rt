@@ -40,44 +40,25 @@ impl Step {
 pub struct Steps<'a> {
     text: &'a str,
     offset: usize,
-    /// How many bytes of printable ASCII come next.
-    printable: usize,
 }
 
 impl<'a> Model for Steps<'a> {
+    ghost use Rattle.std.specs.Str.{IsCharBoundary};
     ghost use Rattle.ansi_items.specs.Scans.{Scan};
-    ghost use Rattle.ansi_clusters.specs.Steps.{IsReading};
 
     ghost Value = { Scan };
 
     ghost view = { λ s. record { text = s.text.now; offset = s.offset } };
 
-    ghost invariant = { λ s. IsReading s.text.now s.offset s.printable };
+    ghost invariant = { λ s. IsCharBoundary s.text.now s.offset };
 }
 
 impl<'a> Steps<'a> {
-    ghost use Rattle.std.specs.Prelude.{◌≡◌, drop};
-    ghost use Rattle.std.specs.List.{prefix_len};
-    ghost use Rattle.ansi_safe.specs.Safe.{is_printable_byte};
-
     /// A reader at the front of the text.
-    #[inline(always)]
     pub fn new(text: &'a str) -> Self
         ensures { result ≡ record { text = text.entry.now; offset = 0 } }
     {
-        Steps {
-            text,
-            offset: 0,
-            printable: printable_len(text.as_bytes()),
-        }
-    }
-
-    /// How many bytes of printable ASCII come next.
-    #[inline(always)]
-    pub fn printable(&self) -> usize
-        ensures { result ≡ prefix_len is_printable_byte (drop self.now.offset self.now.text) }
-    {
-        self.printable
+        Steps { text, offset: 0 }
     }
 }
 
@@ -103,7 +84,6 @@ impl<'a> Iterator for Steps<'a> {
         if bytes[start] == ESC {
             let mark = mark_at(self.text, start);
             self.offset = mark.end;
-            self.printable = printable_len(&bytes[mark.end..]);
             return Some(Step {
                 item: Item {
                     kind: mark.kind,
@@ -113,9 +93,9 @@ impl<'a> Iterator for Steps<'a> {
                 printable: 0,
             });
         }
-        let printable = self.printable;
-        self.offset = start + run_len(&bytes[start..], printable);
-        self.printable = 0;
+        let rest = &bytes[start..];
+        let printable = printable_len(rest);
+        self.offset = start + run_len(rest, printable);
         Some(Step {
             item: Item {
                 kind: Kind::Text,

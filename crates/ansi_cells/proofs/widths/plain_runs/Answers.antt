@@ -21,7 +21,7 @@ pub loop-step-init : goal.loop-step-init
 loop-step-init c =
     let t = c.args.text.now in
     let start = c.into_iter-step-iterator.result in
-    let begins : start ≡ record { text = t; offset = 0 } = c.into_iter-step-iterator.ensures.into_iter_gives ∙ c.requires in
+    let begins : start ≡ record { text = t; offset = 0 } = c.into_iter-step-iterator.ensures.into_iter_gives ∙ c.new-step-items.ensures in
     record {
       text = ap (λ s. s.text) begins;
       so_far = subst (λ s. ArePlainSoFar t 0 0 s.offset (pieces_left s)) (sym begins) (plain-begin t);

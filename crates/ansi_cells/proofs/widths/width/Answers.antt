@@ -1,4 +1,4 @@
-use Rattle.std.proofs.Common.{◌≡◌, true, length, drop, sym, ◌∙◌, ap, arith}
+use Rattle.std.proofs.Common.{◌≡◌, true, length, sym, ◌∙◌, ap, arith}
 use Rattle.std.specs.List.{list_all, prefix_len}
 use Rattle.std.proofs.lemmas.List.{take_all}
 use Rattle.ansi_items.proofs.SequenceLemmas.{all-run}
@@ -14,9 +14,9 @@ walked_width-requires-clause-counted c = (rw c.in_default-Some.is-1 at c.plain_r
 
 -- printable ASCII alone
 
-pub returns-then-printable-text : goal.returns-then-printable-text
-returns-then-printable-text c =
+pub returns-then-printable_front-text : goal.returns-then-printable_front-text
+returns-then-printable_front-text c =
     let t = c.args.text.now in
-    let whole : prefix_len is_printable t ≡ length t = ap (λ s. prefix_len is_printable (drop s.offset s.text)) (sym c.new-steps.ensures) ∙ sym c.printable.ensures ∙ c.if-printable-text.true in
+    let whole : prefix_len is_printable t ≡ length t = sym c.printable_front.ensures ∙ c.if-printable_front-text.true in
     let all : list_all is_printable t ≡ true = ap (list_all is_printable) (sym (take_all (prefix_len is_printable t) t (omega (arith, whole)))) ∙ all-run is_printable t in
     columns-printable t c.utf8.text all c.args.view
