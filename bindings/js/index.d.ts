@@ -81,23 +81,26 @@ export function mark(text: string, pattern: string, style: Change): string;
 /**
  * The text with SGR codes applied to each character in ranges: pairs of positions in order, which don't overlap. Each character there has its
  * own style after the codes: so `1` makes it bold and keeps its color, `22` makes it neither bold nor faint, and `0` or no code makes it
- * plain. Every other character keeps its style; the plain text and every other sequence stay. Throws a RangeError if the style has anything but
- * digits, `;` and `:`; or if a range begins before the one before it ends, ends below its start or past the end of the plain text, or begins or
- * ends between the surrogates of a character.
+ * plain. In a whole text (`isWhole`) every other character keeps its style, except for what an unknown code, such as `4:3` or `38:2::1:2:3`, has
+ * set: that ends after the next run of text in a range. The plain text and every other sequence stay. Throws a RangeError if the style has
+ * anything but digits, `;` and `:`; or if a range begins before the one before it ends, ends below its start or past the end of the plain text,
+ * or begins or ends between the surrogates of a character.
  */
 export function restyle(text: string, ranges: Iterable<[number, number]>, style: Change): string;
 
 /**
- * The text without what its plain text has from `start` to `end`. Every sequence stays, so each character that is left keeps its style. Throws
- * a RangeError if `end` is below `start` or past the end of the plain text, or if a position is between the surrogates of a character.
+ * The text without what its plain text has from `start` to `end`. Every sequence stays, so in a whole text each character that is left keeps its
+ * style. Throws a RangeError if `end` is below `start` or past the end of the plain text, or if a position is between the surrogates of a
+ * character.
  */
 export function remove(text: string, start: number, end: number): string;
 
 /**
  * The text with another text in place of what its plain text has from `start` to `end`. The replacement is in the style and the link of the
- * character before `start`; at the front, of the first one. Its own sequences come on top of that, and what they open ends with it. Each
- * character before the range or after it keeps its style and its link. Every sequence of the text stays; those in the range come right after
- * the replacement. Throws as `remove` does.
+ * character before `start`; at the front, of the first one. Its own sequences come on top of that, and what they open ends with it. If both
+ * texts are whole (`isWhole`), each character before the range or after it keeps its style and its link, except that what an unknown code, such
+ * as `4:3`, has set ends with a replacement that has an ESC. Every sequence of the text stays; those in the range come right after the
+ * replacement. Throws as `remove` does.
  */
 export function replace(text: string, start: number, end: number, replacement: string): string;
 
@@ -109,16 +112,16 @@ export function insert(text: string, position: number, added: string): string;
 
 /**
  * The text with another text in place of each match of a pattern, as `matches` finds them and `replace` replaces each: the replacement is in
- * the style and the link that the character before the match has in this text. Every other character keeps its style and its link. A `$` in
- * the replacement has no meaning of its own.
+ * the style and the link that the character before the match has in this text. Every other character keeps its style and its link as there. A
+ * `$` in the replacement has no meaning of its own.
  */
 export function replaceAll(text: string, pattern: string, replacement: string): string;
 
 /**
  * The text with a text of its own in place of each of many ranges, in one pass. A replacement is a start, an end and a new text; the positions
  * are those of this text, in order, and the ranges don't overlap. Each range is replaced as `replace` does it: its new text is in the style and
- * the link that the character before the range has in this text. Every other character keeps its style and its link. Texts at the same
- * position come in order. Throws a RangeError as `restyle` does, for the ranges.
+ * the link that the character before the range has in this text. Every other character keeps its style and its link as there. Texts at the
+ * same position come in order. Throws a RangeError as `restyle` does, for the ranges.
  */
 export function replaceEach(text: string, replacements: Iterable<[number, number, string]>): string;
 

@@ -495,8 +495,8 @@ def link_at(text: str, position: int) -> Optional[str]:
 
 
 def remove(text: str, start: int, end: int) -> str:
-    """The text without what its plain text has from one position up to another. Every sequence stays, so each character that is
-    left keeps its style. ValueError: the end is below the start, or past the end of the plain text.
+    """The text without what its plain text has from one position up to another. Every sequence stays, so in a whole text each
+    character that is left keeps its style. ValueError: the end is below the start, or past the end of the plain text.
 
     >>> remove("one \\x1b[1mtwo\\x1b[22m three", 2, 5)
     'on\\x1b[1mwo\\x1b[22m three'
@@ -514,8 +514,9 @@ def _ranged(text: str, kind: int, start: int, end: int, data: bytes) -> str:
 def replace(text: str, start: int, end: int, new: str) -> str:
     """The text with another text in place of what its plain text has from one position up to another. The new text is in the style
     and the link of the character before `start`; at the front, of the first one. Its own sequences come on top of that, and what
-    they open ends with it. Each character before the range or after it keeps its style and its link. Every sequence of the text
-    stays; those in the range come right after the new text. ValueError: as by `remove`.
+    they open ends with it. If both texts are whole (`is_whole`), each character before the range or after it keeps its style and
+    its link, except that what an unknown code, such as `4:3`, has set ends with a new text that has an ESC. Every sequence of the
+    text stays; those in the range come right after the new text. ValueError: as by `remove`.
 
     >>> replace("\\x1b[32mgreen\\x1b[39m", 1, 3, "\\x1b[1mAB")
     '\\x1b[32mg\\x1b[1mAB\\x1b[22m\\x1b[39m\\x1b[32men\\x1b[39m'
@@ -540,7 +541,7 @@ def insert(text: str, position: int, new: str) -> str:
 def replace_all(text: str, pattern: str, new: str) -> str:
     """The text with another text in place of each match of a pattern, as `matches` finds them and `replace` replaces each: the new
     text is in the style and the link that the character before the match has in this text. Every other character keeps its style
-    and its link.
+    and its link as there.
 
     >>> replace_all("\\x1b[32mone\\x1b[39m, one", "one", "two")
     '\\x1b[32mtwo\\x1b[39m, two'
@@ -552,7 +553,7 @@ def replace_each(text: str, replacements: Iterable[Tuple[int, int, str]]) -> str
     """The text with a text of its own in place of each of many ranges, in one pass. A replacement is a start, an end and a new text;
     the positions are those of this text, in order, and the ranges don't overlap. Each range is replaced as `replace` does it: its
     new text is in the style and the link that the character before the range has in this text. Every other character keeps its
-    style and its link. Texts at the same position come in order. ValueError: as by `restyle`, for the ranges.
+    style and its link as there. Texts at the same position come in order. ValueError: as by `restyle`, for the ranges.
 
     >>> replace_each("\\x1b[32mone\\x1b[39m two", [(0, 3, "1"), (4, 7, "2")])
     '\\x1b[32m1\\x1b[39m 2'
@@ -695,9 +696,10 @@ def restyle(text: str, ranges: Iterable[Tuple[int, int]], style: Union[str, "Sty
     """The text with SGR codes applied to each character in ranges: pairs of positions in order, which don't overlap. The style is
     the codes as an SGR has them, such as `1;31`, or as `codes` makes them, or a `Style`. Each character there has its own style
     after them: so `1` makes it bold and keeps its color, `22` makes it neither bold nor faint, and `0` or no code makes it
-    plain. Every other character keeps its style; the plain text and every other sequence stay. ValueError: the style has
-    anything but digits, `;` and `:`, or a range begins before the one before it ends, ends below its start, or ends past the
-    end of the plain text.
+    plain. In a whole text (`is_whole`) every other character keeps its style, except for what an unknown code, such as `4:3` or
+    `38:2::1:2:3`, has set: that ends after the next run of text in a range. The plain text and every other sequence stay.
+    ValueError: the style has anything but digits, `;` and `:`, or a range begins before the one before it ends, ends below its
+    start, or ends past the end of the plain text.
 
     >>> restyle("red \\x1b[31mred", [(0, 2), (5, 6)], "4")
     '\\x1b[4mre\\x1b[24md \\x1b[31mr\\x1b[4me\\x1b[24m\\x1b[39m\\x1b[31md'
