@@ -36,8 +36,10 @@ pub trait AnsiRestyle: AnsiStr {
 
     /// The text with SGR codes applied to each character in the ranges. The codes are the parameters of an SGR, such as `1;31`:
     /// each character there has its own style after them. So `1` makes it bold and keeps its color, `22` makes it neither bold
-    /// nor faint, and `0` or no code makes it plain. Every other character keeps its style; the plain text and every other
-    /// sequence stay. The result is borrowed if each range is empty.
+    /// nor faint, and `0` or no code makes it plain. The result is borrowed if each range is empty.
+    ///
+    /// On a [whole](crate::is_whole) text every other character keeps its style, except for what an unknown code, such as `4:3` or
+    /// `38:2::1:2:3`, has set: that ends after the next run of text in a range. The plain text and every other sequence stay.
     ///
     /// It is `None` if the codes have a byte other than a digit, `:` and `;`; or if a range begins before the one before it ends,
     /// ends before it begins or past the end of the plain text, or begins or ends inside a character. [`refused_range`] says which.
@@ -80,9 +82,9 @@ pub trait AnsiRestyle: AnsiStr {
     #[must_use]
     fn ansi_mark(&self, pat: &str, codes: &str) -> Option<Cow<'_, str>>;
 
-    /// The text without a range of its plain text. Every sequence stays, so each character that is left keeps its style. It is
-    /// `None` if the range ends before it begins or past the end of the plain text, or begins or ends inside a character, and
-    /// borrowed if the range is empty.
+    /// The text without a range of its plain text. Every sequence stays, so on a [whole](crate::is_whole) text each character that
+    /// is left keeps its style. It is `None` if the range ends before it begins or past the end of the plain text, or begins or
+    /// ends inside a character, and borrowed if the range is empty.
     ///
     /// ```
     /// use ansi_str::restyle::AnsiRestyle;
@@ -95,8 +97,10 @@ pub trait AnsiRestyle: AnsiStr {
 
     /// The text with another text in place of a range of its plain text. The new text is in the style and the link of the
     /// character before the range; at the front, of the first one. Its own sequences come on top of that, and what they open
-    /// ends with it. Each character before the range or after it keeps its style and its link. Every sequence of the text stays;
-    /// those in the range come right after the new text.
+    /// ends with it. Every sequence of the text stays; those in the range come right after the new text.
+    ///
+    /// If both texts are [whole](crate::is_whole), each character before the range or after it keeps its style and its link, except
+    /// that what an unknown code, such as `4:3`, has set ends with a new text that has an ESC.
     ///
     /// It is `None` if [`ansi_remove`](AnsiRestyle::ansi_remove) refuses the range, and borrowed if the range and the new text
     /// are empty.
@@ -125,8 +129,8 @@ pub trait AnsiRestyle: AnsiStr {
 
     /// The text with another text in place of each match of a pattern, as [`ansi_matches`](AnsiRestyle::ansi_matches) finds them
     /// and [`ansi_replace`](AnsiRestyle::ansi_replace) replaces each: the new text is in the style and the link that the character
-    /// before the match has in this text. Every other character keeps its style and its link. It is borrowed if nothing matches.
-    /// (std's `replace`, on the plain text.)
+    /// before the match has in this text. Every other character keeps its style and its link as there. It is borrowed if nothing
+    /// matches. (std's `replace`, on the plain text.)
     ///
     /// ```
     /// use ansi_str::restyle::AnsiRestyle;
@@ -138,8 +142,8 @@ pub trait AnsiRestyle: AnsiStr {
 
     /// The text with a text of its own in place of each of many ranges, in one pass. Each is replaced as
     /// [`ansi_replace`](AnsiRestyle::ansi_replace) does it: its new text is in the style and the link that the character before
-    /// the range has in this text. Every other character keeps its style and its link. Texts at the same position come in the
-    /// order of their ranges. It is borrowed if each range is empty, and so is the text in its place.
+    /// the range has in this text. Every other character keeps its style and its link as there. Texts at the same position come in
+    /// the order of their ranges. It is borrowed if each range is empty, and so is the text in its place.
     ///
     /// It is `None` if [`ansi_restyle`](AnsiRestyle::ansi_restyle) would refuse the ranges.
     ///

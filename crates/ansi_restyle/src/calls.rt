@@ -89,8 +89,11 @@ pub trait AnsiRestyle: AnsiStr {
     ///
     /// The codes are the parameter bytes of an SGR: digits, `:` and `;` between the codes, such as
     /// `1;31`. In a range, each character has its own style after these codes. So `1` makes it bold
-    /// and keeps its color, `22` makes it neither bold nor faint, and `0` makes it plain. All other
-    /// characters keep their styles. The plain text, links and every other sequence stay.
+    /// and keeps its color, `22` makes it neither bold nor faint, and `0` makes it plain.
+    ///
+    /// On a whole text (`ansi_is_whole`) all other characters keep their styles, except for what an
+    /// unknown code, such as `4:3` or `38:2::1:2:3`, has set: that ends after the next run of text in
+    /// a range. The plain text, links and every other sequence stay.
     ///
     /// A range is a pair of positions, which count bytes of the plain text. The ranges have to be in
     /// order and mustn't overlap. It is `None` exactly if a range isn't between two character
@@ -178,8 +181,8 @@ pub trait AnsiRestyle: AnsiStr {
 
     /// The text without a range of its plain text.
     ///
-    /// Every sequence stays, so each character before the range or after it keeps its style and its
-    /// link.
+    /// Every sequence stays, so on a whole text (`ansi_is_whole`) each character before the range or
+    /// after it keeps its style and its link.
     ///
     /// A range is a pair of positions, which count bytes of the plain text. It is `None` exactly if
     /// `ansi_restyle` would refuse the range: if it ends before it begins, or a position of it is
@@ -225,8 +228,12 @@ pub trait AnsiRestyle: AnsiStr {
     ///
     /// The new text is in the style and the link of the character before the range; at the front, of
     /// the first character. Its own sequences come on top of that. Where it ends, the style and the
-    /// link that it opened end. Each character before the range or after it keeps its style and its
-    /// link. Every sequence of the text stays; those in the range come right after the new text.
+    /// link that it opened end. Every sequence of the text stays; those in the range come right after
+    /// the new text.
+    ///
+    /// If both texts are whole (`ansi_is_whole`), each character before the range or after it keeps its
+    /// style and its link, except that what an unknown code, such as `4:3`, has set ends with a new
+    /// text that has an ESC.
     ///
     /// A range is a pair of positions, which count bytes of the plain text. It is `None` exactly if
     /// `ansi_restyle` would refuse the range: if it ends before it begins, or a position of it is
@@ -324,7 +331,7 @@ pub trait AnsiRestyle: AnsiStr {
     /// The matches are those of `ansi_matches`. Each is replaced as `ansi_replace` does it: the new
     /// text is in the style and the link that the character before the match has in this text; at the
     /// front, of the first character. Its own sequences come on top of that, and what it opens ends
-    /// where it ends. Every other character keeps its style and its link.
+    /// where it ends. Every other character keeps its style and its link as there.
     ///
     /// If both texts are safe (`ansi_is_safe`), so is the result, unless a match begins between a
     /// carriage return and a line feed. None does if the pattern begins with another character than a
@@ -372,7 +379,7 @@ pub trait AnsiRestyle: AnsiStr {
     /// Each range is replaced as `ansi_replace` does it: its new text is in the style and the link that
     /// the character before the range has in this text; at the front, of the first character. Its own
     /// sequences come on top of that, and what it opens ends where it ends. Every other character
-    /// keeps its style and its link.
+    /// keeps its style and its link as there.
     ///
     /// A range is a pair of positions, which count bytes of the plain text of this text. The ranges
     /// have to be in order and mustn't overlap. It is `None` exactly if `ansi_restyle` would refuse
@@ -498,8 +505,9 @@ pub trait AnsiRestyle: AnsiStr {
 
     /// The text without its links.
     ///
-    /// Its link sequences (OSC 8), which open or close a link, are left out. Everything else stays as
-    /// it is: the plain text, each character's style, and every other sequence at its place.
+    /// Its link sequences (OSC 8), which open or close a link, are left out. In a whole text
+    /// (`ansi_is_whole`) everything else stays as it is: the plain text, each character's style, and
+    /// every other sequence at its place.
     ///
     /// If the text is safe (`ansi_is_safe`), so is the result, also with `Links::Remove`.
     ///

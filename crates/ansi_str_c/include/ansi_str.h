@@ -543,9 +543,14 @@ static inline ansi_str_answers ansi_str_matches(const char *text, size_t text_le
                                 ranges == NULL ? &none : ranges, ranges_len);
 }
 
+/* From here to ansi_str_unlink, what is said to stay stays on a whole text (ansi_str_is_whole). In another one, an ESC that begins
+   no sequence can join the bytes that come to follow it: "\x1b" with "y" put in at 0 shows nothing, and "\x1b\x1b]8;;\x1b\\m"
+   without its links is "\x1bm", a sequence. */
+
 /* The text with SGR codes applied to each character in the ranges. The codes are the parameters of an SGR, such as "1;31":
    each character there has its own style after them. So "1" makes it bold and keeps its color, "22" makes it neither bold nor
-   faint, and "0" or no code makes it plain. Every other character keeps its style; the plain text and every other sequence stay.
+   faint, and "0" or no code makes it plain. Every other character keeps its style, except for what an unknown code, such as "4:3"
+   or "38:2::1:2:3", has set: that ends after the next run of text in a range. The plain text and every other sequence stay.
    The result is at most codes_len + 3 + ANSI_STR_LONGEST_START_AND_CLOSE bytes longer for each range and for each block of the
    text. ANSI_STR_REFUSED: the codes have a byte other than a digit, ";" and ":"; or a range begins before the one before it ends,
    ends below its start or past the end of the plain text, or begins or ends inside a character. ANSI_STR_NOT_UTF8: the text or
@@ -588,10 +593,11 @@ static inline ansi_str_answer ansi_str_remove(const char *text, size_t text_len,
 
 /* The text with another text in place of its plain bytes from one position up to another. The new text is in the style and the
    link of the character before `start`; at the front, of the first one. Its own sequences come on top of that, and what they open
-   ends with it. Each character before the range or after it keeps its style and its link. Every sequence of the text stays; those
-   in the range come right after the new text. The result is at most ANSI_STR_LONGEST_START_AND_CLOSE + ANSI_STR_LONGEST_LINK_END bytes
-   longer than both texts and the sequence of the link there. ANSI_STR_REFUSED: as ansi_str_remove. ANSI_STR_NOT_UTF8: one of the
-   texts isn't UTF-8. Allocates if the range or the new text isn't empty, on any text.
+   ends with it. Each character before the range or after it keeps its style and its link, except that what an unknown code, such
+   as "4:3", has set ends with a new text that has an ESC. Every sequence of the text stays; those in the range come right after
+   the new text. The result is at most ANSI_STR_LONGEST_START_AND_CLOSE + ANSI_STR_LONGEST_LINK_END bytes longer than both texts
+   and the sequence of the link there. ANSI_STR_REFUSED: as ansi_str_remove. ANSI_STR_NOT_UTF8: one of the texts isn't UTF-8.
+   Allocates if the range or the new text isn't empty, on any text.
    "\x1b[32mgreen\x1b[39m" from 1 up to 3 with "\x1b[1mAB" gives "\x1b[32mg\x1b[1mAB\x1b[22m\x1b[39m\x1b[32men\x1b[39m". */
 static inline ansi_str_answer ansi_str_replace(const char *text, size_t text_len, size_t start, size_t end, const char *with,
                                                size_t with_len, char *buffer, size_t buffer_len) {
@@ -610,8 +616,8 @@ static inline ansi_str_answer ansi_str_insert(const char *text, size_t text_len,
 
 /* The text with another text in place of each match of the pattern, as ansi_str_matches finds them and ansi_str_replace replaces
    each: the new text is in the style and the link that the character before the match has in this text. Every other character
-   keeps its style and its link, and every sequence of the text stays. What is put in isn't searched. ANSI_STR_NOT_UTF8: one of
-   the texts isn't UTF-8. Allocates if the pattern matches.
+   keeps its style and its link as there, and every sequence of the text stays. What is put in isn't searched. ANSI_STR_NOT_UTF8:
+   one of the texts isn't UTF-8. Allocates if the pattern matches.
    "\x1b[32mone\x1b[39m, one" with "one" and "two" gives "\x1b[32mtwo\x1b[39m, two". */
 static inline ansi_str_answer ansi_str_replace_all(const char *text, size_t text_len, const char *pattern, size_t pattern_len,
                                                    const char *with, size_t with_len, char *buffer, size_t buffer_len) {
@@ -631,8 +637,8 @@ static inline ansi_str_replacement ansi_str_replacement_of(size_t start, size_t 
 
 /* The text with a text of its own in place of each of many ranges, in one pass. Positions count bytes of the plain text of this
    text. Each range is replaced as ansi_str_replace does it: its new text is in the style and the link that the character before
-   the range has in this text. Every other character keeps its style and its link, and every sequence of the text stays. Several
-   texts at one position come in order.
+   the range has in this text. Every other character keeps its style and its link as there, and every sequence of the text stays.
+   Several texts at one position come in order.
    ANSI_STR_REFUSED: the ranges are refused as by ansi_str_restyle. ANSI_STR_NOT_UTF8: one of the texts isn't UTF-8. Allocates if
    there is a range, on any text.
    "one \x1b[32mtwo\x1b[39m" with "1" from 0 up to 3 and "2" from 4 up to 7 gives "1 2\x1b[32m\x1b[39m". */
