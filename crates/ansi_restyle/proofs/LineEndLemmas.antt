@@ -1,13 +1,36 @@
--- No match begins between a carriage return and a line feed, if the pattern begins with another byte than a line feed.
-use Rattle.std.proofs.Common.{◌≡◌, ℕ, zero, suc, ◌+◌, ◌-◌, ◌==◌, Bool, true, false, not, ◌&&◌, List, [], ◌∷◌, length, map, filter, drop, nat_eq, nat_le, slice_index, refl, sym, ◌∙◌, ap, arith, if◌then◌else◌}
+-- Which positions are between a carriage return and a line feed: none of a text without a carriage return, and no beginning of a match, if the pattern begins with another byte than a line feed.
+use Rattle.std.proofs.Common.{◌≡◌, ℕ, zero, suc, ◌+◌, ◌-◌, ◌==◌, Bool, true, false, not, ◌&&◌, ◌||◌, List, [], ◌∷◌, length, map, filter, drop, nat_eq, nat_le, slice_index, refl, sym, ◌∙◌, ap, arith, if◌then◌else◌}
 use Rattle.std.proofs.lemmas.Bool.{and_from, and_parts, cond_both, eqb-true}
 use Rattle.std.proofs.lemmas.List.{get_or-drop}
-use Rattle.std.specs.List.{list_all, range_with_len, starts_with}
+use Rattle.std.specs.List.{list_all, list_any, range_with_len, starts_with}
 use Rattle.ansi_search.specs.Positions.{is_char_boundary}
 use Rattle.ansi_search.specs.Matches.{is_match, match_places}
 use Rattle.ansi_split.specs.Parts.{without_overlaps}
 use Rattle.ansi_restyle.specs.Matches.{matches}
-use Rattle.ansi_restyle.specs.Ranges.{parts_line_end, begin_outside_line_ends}
+use Rattle.ansi_restyle.specs.Ranges.{parts_line_end, keep_line_ends, begin_outside_line_ends}
+
+neither : (a b : Bool) → (a || b) ≡ false → (a ≡ false) × (b ≡ false)
+neither true b none = absurd (cc none)
+neither false b none = (refl, none)
+
+no_return : (x : List ℕ) (n : ℕ) → list_any (λ b. b == 13) x ≡ false → (slice_index x n == 13) ≡ false
+no_return [] n none = refl
+no_return (b ∷ x) zero none = (neither (b == 13) (list_any (λ c. c == 13) x) none).0
+no_return (b ∷ x) (suc n) none = no_return x n (neither (b == 13) (list_any (λ c. c == 13) x) none).1
+
+module _ (x : List ℕ) (none : list_any (λ b. b == 13) x ≡ false) where
+  pub parts_none : (n : ℕ) → parts_line_end x n ≡ false
+  parts_none n = ap (λ r. r && (slice_index x n == 10)) (no_return x (n - 1) none)
+
+  pub keep_any : (rs : List (ℕ × ℕ)) → keep_line_ends x rs ≡ true
+  keep_any [] = refl
+  keep_any (r ∷ rs) =
+      and_from (not (parts_line_end x r.0) && not (parts_line_end x r.1)) (keep_line_ends x rs)
+      (and_from (not (parts_line_end x r.0)) (not (parts_line_end x r.1)) (ap not (parts_none r.0)) (ap not (parts_none r.1))) (keep_any rs)
+
+  pub begin_any : (rs : List (ℕ × ℕ)) → begin_outside_line_ends x rs ≡ true
+  begin_any [] = refl
+  begin_any (r ∷ rs) = and_from (not (parts_line_end x r.0)) (begin_outside_line_ends x rs) (ap not (parts_none r.0)) (begin_any rs)
 
 first_byte : (v : List ℕ) (b : ℕ) (p : List ℕ) → starts_with nat_eq v (b ∷ p) ≡ true → slice_index v 0 ≡ b
 first_byte [] b p starts = absurd (cc starts)

@@ -4,6 +4,7 @@
 //! the law calls it, as `laws::other_marks_stay();`. (Own.)
 ghost use Rattle.std.specs.Prelude.{◌≡◌, ◌<◌, ◌≤◌, ◌-◌, ◌++◌, ℕ, List, [], IsTrue, length};
 ghost use Rattle.std.specs.Prelude.{◌==◌, ◌∷◌, IsFalse, map, slice_range};
+ghost use Rattle.std.specs.List.{list_any};
 ghost use Rattle.std.specs.Str.{IsUtf8, byte};
 ghost use Rattle.ansi_items.specs.Plain.{plain, is_whole};
 ghost use Rattle.ansi_style.specs.Rendition.{known};
@@ -14,6 +15,7 @@ ghost use Rattle.ansi_restyle.specs.Linked.{links_in};
 ghost use Rattle.ansi_restyle.specs.Links.{LinkedRange, links};
 ghost use Rattle.ansi_restyle.specs.Matches.{matches};
 ghost use Rattle.ansi_restyle.specs.Ranges.{are_empty, are_in_turn, begin_outside_line_ends};
+ghost use Rattle.ansi_restyle.specs.Ranges.{keep_line_ends, parts_line_end};
 ghost use Rattle.ansi_restyle.specs.Removed.{IsRemoved};
 ghost use Rattle.ansi_restyle.specs.Replaced.{IsReplaced};
 ghost use Rattle.ansi_restyle.specs.ReplacedEach.{IsReplacedEach};
@@ -86,6 +88,17 @@ pub fn single_replacements_replace()
 pub fn links_are_in_turn()
     ensures { (t : List ℕ) → IsUtf8 t →
         IsTrue (are_in_turn (plain t) 0 (map (λ (l : LinkedRange). l.range) (links t))) }
+{}
+
+/// No position is inside a line end of a text without a carriage return. So its ranges may begin and
+/// end anywhere.
+pub fn texts_without_returns_keep_line_ends()
+    ensures parts { (x : List ℕ) (n : ℕ) → IsFalse (list_any (λ b. b == byte "\r") x) →
+        IsFalse (parts_line_end x n) }
+    ensures keep { (x : List ℕ) (rs : List (ℕ × ℕ)) → IsFalse (list_any (λ b. b == byte "\r") x) →
+        IsTrue (keep_line_ends x rs) }
+    ensures begin { (x : List ℕ) (rs : List (ℕ × ℕ)) →
+        IsFalse (list_any (λ b. b == byte "\r") x) → IsTrue (begin_outside_line_ends x rs) }
 {}
 
 /// No match begins between a carriage return and a line feed if the pattern begins with another
