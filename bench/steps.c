@@ -369,7 +369,8 @@ APART enum kind other_sequence(struct reader *r, struct pen *pen) {
     }
     if (address) {
         struct reader inside = {at + 4, body_end, r->begin};
-        if (inside.at == body_end || printable(&inside) == (size_t)(body_end - inside.at)) {
+        bool is_short = address - inside.at - 1 <= 253 && body_end - address <= 2083;
+        if (is_short && (inside.at == body_end || printable(&inside) == (size_t)(body_end - inside.at))) {
             if (pen) pen->link = at, pen->link_len = address < body_end ? (size_t)(end - at) : 0;
             return KEPT;
         }

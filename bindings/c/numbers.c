@@ -253,6 +253,13 @@ static void expect_policies(void) {
     expect("a link is removed", ansi_str_is_safe(TEXT(LINK), ANSI_STR_REMOVE_LINKS).status, ANSI_STR_NO);
 }
 
+/* Expects this status of `is_safe` of a link whose parameters and address have these lengths. */
+static void expect_link(size_t parameters_len, size_t address_len, uint32_t status) {
+    char text[ANSI_STR_LONGEST_PARAMETERS + ANSI_STR_LONGEST_ADDRESS + 16];
+    size_t len = (size_t)snprintf(text, sizeof text, "\x1b]8;%0*d;%0*d\x1b\\", (int)parameters_len, 0, (int)address_len, 0);
+    expect("a link", ansi_str_is_safe(text, len, ANSI_STR_KEEP_LINKS).status, status);
+}
+
 /* The lengths, by a style with everything set: its start, its close, a cut text, and a part into which the style is carried. */
 static void expect_lengths(void) {
     static const char SGR[] = "\x1b[0;99;1;2;3;4;5;6;7;8;9;19;20;21;26;38;2;255;255;255;48;2;255;255;255;58;2;255;255;255;51;52;53;"
@@ -272,6 +279,11 @@ static void expect_lengths(void) {
     expect("what opens a pen", (uint32_t)ansi_str_pen_start(text, len, buffer, sizeof buffer).len, ANSI_STR_LONGEST_START + 7);
     expect("what closes a pen", (uint32_t)ansi_str_pen_end(text, len, buffer, sizeof buffer).len,
            ANSI_STR_LONGEST_LINK_END + ANSI_STR_LONGEST_CLOSE);
+    EXPECT_NUMBER(ANSI_STR_LONGEST_ADDRESS, 2083);
+    EXPECT_NUMBER(ANSI_STR_LONGEST_PARAMETERS, 253);
+    expect_link(ANSI_STR_LONGEST_PARAMETERS, ANSI_STR_LONGEST_ADDRESS, ANSI_STR_OK);
+    expect_link(ANSI_STR_LONGEST_PARAMETERS + 1, ANSI_STR_LONGEST_ADDRESS, ANSI_STR_NO);
+    expect_link(ANSI_STR_LONGEST_PARAMETERS, ANSI_STR_LONGEST_ADDRESS + 1, ANSI_STR_NO);
 }
 
 int main(void) {

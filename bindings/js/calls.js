@@ -589,6 +589,9 @@ export function link(text, start, end, address) {
   if (!/^[ -~]+$/.test(textOf('address', address))) {
     throw new RangeError(`the address must be printable ASCII, and not empty: ${address}`);
   }
+  if (address.length > 2083) {
+    throw new RangeError(`the address must have at most 2083 characters, not ${address.length}`);
+  }
   return madeInRange(text, start, end, (first, last) => raw.link(text, first, last, address));
 }
 

@@ -128,8 +128,8 @@ export function replaceEach(text: string, replacements: Iterable<[number, number
 /**
  * The text with what its plain text has from `start` to `end` linked to an address (OSC 8). Each character there loses another link that it had.
  * Every other character keeps its link: one that goes on into the range ends before it, and one that goes on after it is opened again there. The
- * plain text, the styles and all other sequences stay. Throws as `remove` does, and a RangeError if the address is empty or has anything but
- * printable ASCII.
+ * plain text, the styles and all other sequences stay. Throws as `remove` does, and a RangeError if the address is empty, is longer than 2083
+ * characters, or has anything but printable ASCII.
  */
 export function link(text: string, start: number, end: number, address: string): string;
 
@@ -226,8 +226,8 @@ export interface Pen {
   /** The address of the link (OSC 8), or null. */
   link: string | null;
   /**
-   * The sequences that open both again, the style first. A link whose sequence has anything but printable ASCII isn't opened, and what an
-   * unknown SGR code has set isn't set.
+   * The sequences that open both again, the style first. A link that `sanitize` wouldn't keep isn't opened, and what an unknown SGR code
+   * has set isn't set.
    */
   start: string;
   /** The sequences that close both, the link first. */
@@ -336,8 +336,9 @@ export function linkAt(text: string, position: number): string | null;
 
 /**
  * The text made safe, so that it can't drive the terminal. Printing characters, TAB, line feeds, carriage returns directly before a
- * line feed and SGRs stay, and with `links` links (OSC 8) of printable ASCII. Any other sequence, lone ESC, control character or
- * bidirectional control is dropped, or with `show` shown in printing characters. The link and style still open at the end are closed.
+ * line feed and SGRs stay, and with `links` links (OSC 8) of printable ASCII, with an address of at most 2083 characters and parameters of
+ * at most 253. Any other sequence, lone ESC, control character or bidirectional control is dropped, or with `show` shown in printing
+ * characters. The link and style still open at the end are closed.
  * Bytes are decoded first: what isn't UTF-8 becomes U+FFFD, as by `TextDecoder`, and a byte order mark stays.
  */
 export function sanitize(text: string | Uint8Array, options?: { show?: boolean; links?: boolean }): string;

@@ -150,6 +150,7 @@ test('a replacement, an added text and a link count UTF-16 units, and a bad rang
     for (const address of ['', 'a\nb', '\x1b\\', '\x7f', 'é']) {
       assert.throws(() => link(text, 0, 3, address), refused(`the address must be printable ASCII, and not empty: ${address}`));
     }
+    assert.throws(() => link(text, 0, 3, 'a'.repeat(2084)), refused('the address must have at most 2083 characters, not 2084'));
     assert.throws(() => replace(text, 0, 0), /must be a string/);
     assert.throws(() => insert(text, 0, '\ud800'), /lone surrogate/);
     assert.throws(() => link(text, 0, 1, null), /must be a string/);

@@ -354,6 +354,7 @@ class Arguments(unittest.TestCase):
                 self.refused(ValueError, "the position lies past the end of the plain text: %d" % huge, ansi_str.insert, text, huge, "b")
             for wrong in ("", "a\nb", "\x1b\\", "\x7f", "\xe9"):
                 self.refused(ValueError, "address must be printable ASCII, and not empty, not " + repr(wrong), ansi_str.link, text, 0, 1, wrong)
+            self.refused(ValueError, "address must have at most 2083 characters, not 2084", ansi_str.link, text, 0, 1, "a" * 2084)
             for call, name in ((lambda new: ansi_str.replace(text, 0, 0, new), "new"), (lambda new: ansi_str.insert(text, 0, new), "new"),
                                (lambda new: ansi_str.replace_all(text, "z", new), "new"), (lambda new: ansi_str.replace_each(text, [(0, 0, new)]), "new"),
                                (lambda address: ansi_str.link(text, 0, 1, address), "address")):

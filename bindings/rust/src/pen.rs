@@ -37,8 +37,8 @@ impl Pen {
         self.link.as_deref()
     }
 
-    /// The sequences that open both again, the style first. A link whose sequence has anything but printable ASCII isn't opened, and
-    /// what an unknown SGR code has set isn't set.
+    /// The sequences that open both again, the style first. A link that a safe text wouldn't keep isn't opened, and what an unknown
+    /// SGR code has set isn't set.
     ///
     /// ```
     /// assert_eq!(ansi_str::pen_after("\x1b[31mred").start(), "\x1b[31m");

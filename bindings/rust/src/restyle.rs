@@ -173,8 +173,8 @@ pub trait AnsiRestyle: AnsiStr {
     /// that it had. Every other character keeps its link: one that goes on into the range ends before it, and one that goes on
     /// after it is opened again there. The plain text, the styles and all other sequences stay.
     ///
-    /// It is `None` if [`ansi_remove`](AnsiRestyle::ansi_remove) refuses the range, or if the address is empty or has a byte that
-    /// isn't printable ASCII (20 to 7E). It is borrowed if the range is empty.
+    /// It is `None` if [`ansi_remove`](AnsiRestyle::ansi_remove) refuses the range, or if the address is empty, has more than 2,083
+    /// bytes, or has a byte that isn't printable ASCII (20 to 7E). It is borrowed if the range is empty.
     ///
     /// ```
     /// use ansi_str::restyle::AnsiRestyle;

@@ -22,7 +22,8 @@ pub enum Rest {
 pub enum Links {
     /// Each link is unsafe.
     Remove,
-    /// A link stays if each byte between its `ESC ]` and its terminator is printable ASCII.
+    /// A link stays if its address has at most 2,083 bytes and its parameters have at most 253, and each byte between its `ESC ]` and
+    /// its terminator is printable ASCII.
     Keep,
 }
 

@@ -34,7 +34,7 @@ use ansi_items::ESC;
 use ansi_items::ansitok::Kind;
 use ansi_safe::cells::cell_of;
 use ansi_safe::links::{
-    Ending, Pen, address_of, link_after, pen_after, pen_after_from, plain_pen, terminator_len,
+    Ending, Pen, is_short_link, link_after, pen_after, pen_after_from, plain_pen, terminator_len,
 };
 use ansi_safe::printable::printable_len;
 use ansi_safe::utf8::is_ascii;
@@ -482,12 +482,12 @@ fn item_stays(text: &str, step: Step) -> bool
     }
 }
 
-/// Whether this is a link sequence whose bytes are printable ASCII.
+/// Whether this is a short link sequence whose bytes are printable ASCII.
 fn is_clean_link(sequence: &str) -> bool
     ensures { result ≡ is_clean_link sequence.now }
 {
     let bytes = sequence.as_bytes();
-    address_of(bytes).is_some() && is_printable(sequence, 2, bytes.len() - terminator_len(bytes))
+    is_short_link(bytes) && is_printable(sequence, 2, bytes.len() - terminator_len(bytes))
 }
 
 /// Whether a column after the first one is in a run of ASCII that begins at the position `place`.

@@ -16,7 +16,7 @@ use Rattle.ansi_items.specs.Sequences.{IsControlSequence, IsControlString, IsEsc
 use Rattle.ansi_items.specs.Pieces.{Piece, Text, Sequence, LoneEscape}
 use Rattle.ansi_items.proofs.JoinLemmas.{spelled}
 use Rattle.ansi_safe.specs.declared.policy.Links.TheVariants.{Keep}
-use Rattle.ansi_safe.specs.Links.{terminator_len, is_link}
+use Rattle.ansi_safe.specs.Links.{terminator_len, is_short_link}
 use Rattle.ansi_safe.specs.Safe.{is_printable_byte, is_clean_link, may_stay}
 use Rattle.ansi_safe.proofs.SafeLemmas.{AreGood}
 
@@ -93,7 +93,7 @@ body-printable : (o : ℕ) (body end : List ℕ) → terminator_len (escape ∷ 
 body-printable o body end short clean =
     let w = escape ∷ o ∷ (body ++ end) in
     let n = length w - terminator_len w in
-    front-all is_printable_byte (n - 2) body end (omega (arith, short, length-append body end)) (and_parts (is_link w) (list_all is_printable_byte (slice_range w 2 n)) clean).1
+    front-all is_printable_byte (n - 2) body end (omega (arith, short, length-append body end)) (and_parts (is_short_link w) (list_all is_printable_byte (slice_range w 2 n)) clean).1
 
 one_or_two : (b : Bool) → (if b then 1 else 2) ≤ 2
 one_or_two true = omega arith

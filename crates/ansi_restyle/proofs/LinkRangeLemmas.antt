@@ -3,6 +3,7 @@ use Rattle.std.proofs.Common.{◌≡◌, ◌≢◌, ℕ, ◌+◌, ◌-◌, ◌�
 use Rattle.std.specs.Cmp.Lexicographic.{pointwise}
 use Rattle.std.specs.List.{list_all, prefix_len}
 use Rattle.std.specs.Str.{byte}
+use Rattle.std.specs.Int.{is_in_range}
 use Rattle.std.proofs.Math.Seq.{take-append_seam, drop-append_seam}
 use Rattle.std.proofs.lemmas.Bool.{and_from, and_parts, cases_lt, cases_Bool, eq-eqb, eqb-true, lt-ltb}
 use Rattle.std.proofs.lemmas.Bool.Decides.{nat_tests}
@@ -21,7 +22,7 @@ use Rattle.ansi_style.specs.Styled.{styled, residue}
 use Rattle.ansi_search.specs.Offsets.{offset_of}
 use Rattle.ansi_search.proofs.OffsetLemmas.{after_of, after_of-last, after_of-text, pieces_of-after}
 use Rattle.ansi_split.proofs.AfterLemmas.{is_cut_after}
-use Rattle.ansi_safe.specs.Links.{terminator_len, address_of, is_link, opens_link, link_of, link_after, link_after_all, link_at, link_end}
+use Rattle.ansi_safe.specs.Links.{longest_address, terminator_len, address_of, is_link, opens_link, link_of, link_after, link_after_all, link_at, link_end}
 use Rattle.ansi_safe.specs.Safe.{is_printable_byte}
 use Rattle.ansi_safe.proofs.LinkLemmas.{link_of-fold, link_of-pieces, link_through}
 use Rattle.ansi_safe.proofs.EndingLemmas.{length-link_end, link_end-open, link_end-shut}
@@ -46,8 +47,8 @@ printable-body (b ∷ a) all =
     one : (c : ℕ) → is_printable_byte c ≡ true → is_body_byte 93 c ≡ true
     one c is = grind (arith, nat_tests)
 
-clean_parts : (a : List ℕ) → is_clean_address a ≡ true → (nat_lt 0 (length a) ≡ true) × (list_all is_printable_byte a ≡ true)
-clean_parts a clean = and_parts (nat_lt 0 (length a)) (list_all is_printable_byte a) clean
+pub clean_parts : (a : List ℕ) → is_clean_address a ≡ true → (is_in_range 1 longest_address (length a) ≡ true) × (list_all is_printable_byte a ≡ true)
+clean_parts a clean = and_parts (is_in_range 1 longest_address (length a)) (list_all is_printable_byte a) clean
 
 pub link_to-sequence : (a : List ℕ) → is_clean_address a ≡ true → IsSequence (link_to a)
 link_to-sequence a clean = inr (inl (record {
@@ -69,7 +70,7 @@ link_to-terminator a =
     let last : drop (length w - 1) w ≡ 92 ∷ [] = ap₂ drop at is ∙ drop-append_seam (u ++ 27 ∷ []) (92 ∷ []) in
     ap (λ v. if pointwise nat_eq (7 ∷ []) v then 1 else 2) last
 
-link_to-fields : (a : List ℕ) → slice_range (link_to a) 4 (length (link_to a) - terminator_len (link_to a)) ≡ 59 ∷ a
+pub link_to-fields : (a : List ℕ) → slice_range (link_to a) 4 (length (link_to a) - terminator_len (link_to a)) ≡ 59 ∷ a
 link_to-fields a =
     let w = link_to a in
     let fields = 59 ∷ a in
@@ -86,7 +87,10 @@ pub link_to-is_link : (a : List ℕ) → is_link (link_to a) ≡ true
 link_to-is_link a = ap is_some (link_to-address a)
 
 link_to-opens : (a : List ℕ) → is_clean_address a ≡ true → opens_link (link_to a) ≡ true
-link_to-opens a clean = ap (λ o. nat_lt 0 (length (unwrap_or o []))) (link_to-address a) ∙ (clean_parts a clean).0
+link_to-opens a clean = ap (λ o. nat_lt 0 (length (unwrap_or o []))) (link_to-address a) ∙ not_empty (length a) (clean_parts a clean).0
+  where
+    not_empty : (n : ℕ) → is_in_range 1 longest_address n ≡ true → nat_lt 0 n ≡ true
+    not_empty n is = grind (arith, nat_tests)
 
 opened : (link w : List ℕ) → is_link w ≡ true → opens_link w ≡ true → link_after link w ≡ w
 opened link w is opens = ap₂ (λ b c. if b then (if c then w else []) else link) is opens

@@ -1,5 +1,5 @@
 -- A safe text without its links, or without a range, is safe.
-use Rattle.std.proofs.Common.{◌≡◌, ℕ, ◌+◌, ◌-◌, ◌≤◌, inl, inr, Bool, true, false, not, ◌&&◌, ◌||◌, List, [], ◌∷◌, length, take, slice_range, refl, sym, ◌∙◌, ap, subst, arith, if◌then◌else◌}
+use Rattle.std.proofs.Common.{◌≡◌, ℕ, ◌+◌, ◌-◌, ◌≤◌, inl, inr, Bool, true, false, not, ◌&&◌, ◌||◌, List, [], ◌∷◌, length, take, slice_range, nat_le, unwrap_or, refl, sym, ◌∙◌, ap, subst, arith, if◌then◌else◌}
 use Rattle.std.proofs.lemmas.Bool.{cases_lt}
 use Rattle.std.specs.List.{list_all}
 use Rattle.std.specs.Str.{IsUtf8}
@@ -13,8 +13,8 @@ use Rattle.ansi_search.specs.Positions.{no_character_goes_on}
 use Rattle.ansi_search.proofs.OffsetLemmas.{pieces_of-after}
 use Rattle.ansi_search.proofs.PositionLemmas.{no_character_goes_on-drop}
 use Rattle.ansi_safe.specs.declared.policy.Links.{Links}
-use Rattle.ansi_safe.specs.Links.{is_link, terminator_len}
-use Rattle.ansi_safe.specs.Safe.{is_printable_byte, keeps_links, may_stay, is_safe}
+use Rattle.ansi_safe.specs.Links.{longest_address, longest_parameters, address_of, parameters_len, is_link, terminator_len}
+use Rattle.ansi_safe.specs.Safe.{is_printable_byte, is_clean_link, keeps_links, may_stay, is_safe}
 use Rattle.ansi_safe.proofs.SafeLemmas.{AreGood, good_are_safe}
 use Rattle.ansi_restyle.specs.Links.{without_links}
 use Rattle.ansi_restyle.specs.Ranges.{are_in_turn, parts_line_end}
@@ -29,13 +29,13 @@ use Rattle.ansi_restyle.proofs.WithoutLinksLemmas.{unlinked, is_link-text}
 -- Without its links, a text has no sequence but SGRs.
 
 is_sgr_left : (links other : Links) (w : List ℕ) → is_link w ≡ false → may_stay links (Sequence w) ≡ true → may_stay other (Sequence w) ≡ true
-is_sgr_left links other w none stays = by (is_sgr w) (keeps_links links) (is_link w) (list_all is_printable_byte (slice_range w 2 (length w - terminator_len w))) none stays
+is_sgr_left links other w none stays = by (is_sgr w) (keeps_links links) (is_clean_link w) (ap (λ l. (l && (nat_le (parameters_len w) longest_parameters && nat_le (length (unwrap_or (address_of w) [])) longest_address)) && list_all is_printable_byte (slice_range w 2 (length w - terminator_len w))) none) stays
   where
-    by : (s k l c : Bool) → l ≡ false → (s || (k && (l && c))) ≡ true → (s || (keeps_links other && (l && c))) ≡ true
-    by true k l c none stays = refl
-    by false k true c none stays = absurd (cc none)
-    by false true false c none stays = absurd (cc stays)
-    by false false false c none stays = absurd (cc stays)
+    by : (s k c : Bool) → c ≡ false → (s || (k && c)) ≡ true → (s || (keeps_links other && c)) ≡ true
+    by true k c none stays = refl
+    by false k true none stays = absurd (cc none)
+    by false true false none stays = absurd (cc stays)
+    by false false false none stays = absurd (cc stays)
 
 pub unlinked_good : (links other : Links) (ps : List Piece) → AreGood links ps → AreGood other (unlinked ps)
 unlinked_good links other [] good = tt

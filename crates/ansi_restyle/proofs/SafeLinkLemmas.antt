@@ -1,9 +1,11 @@
 -- A safe text with a range linked is safe if links are kept, if the range neither begins nor ends between a carriage return and a line feed.
-use Rattle.std.proofs.Common.{◌≡◌, ℕ, ◌+◌, ◌-◌, ◌≤◌, Bool, true, false, ◌&&◌, ◌||◌, List, [], ◌∷◌, ◌++◌, length, take, slice_range, refl, ◌∙◌, ap, subst, arith, length-append}
+use Rattle.std.proofs.Common.{◌≡◌, ℕ, ◌+◌, ◌-◌, ◌≤◌, ◌==◌, Bool, true, false, not, ◌&&◌, ◌||◌, List, [], ◌∷◌, ◌++◌, length, take, slice_range, nat_le, unwrap_or, refl, ◌∙◌, ap, subst, arith, length-append}
 use Rattle.std.proofs.Math.Seq.{take-append_seam}
 use Rattle.std.proofs.lemmas.Bool.{and_from, and_parts}
-use Rattle.std.specs.List.{list_all}
-use Rattle.std.specs.Str.{IsUtf8}
+use Rattle.std.specs.List.{list_all, prefix_len}
+use Rattle.std.specs.Int.{is_in_range}
+use Rattle.std.specs.Str.{IsUtf8, byte}
+use Rattle.std.proofs.lemmas.Bool.Decides.{nat_tests}
 use Rattle.ansi_items.specs.Pieces.{Piece, Text, Sequence, LoneEscape, pieces_of}
 use Rattle.ansi_items.specs.Plain.{plain}
 use Rattle.ansi_items.specs.Sequences.{is_sgr}
@@ -12,14 +14,14 @@ use Rattle.ansi_search.specs.Positions.{no_character_goes_on}
 use Rattle.ansi_search.proofs.PositionLemmas.{no_character_goes_on-drop}
 use Rattle.ansi_safe.specs.declared.policy.Links.{Links}
 use Rattle.ansi_safe.specs.declared.policy.Links.TheVariants.{Keep, Remove}
-use Rattle.ansi_safe.specs.Links.{terminator_len, link_at}
+use Rattle.ansi_safe.specs.Links.{longest_address, longest_parameters, terminator_len, is_short_link, link_at}
 use Rattle.ansi_safe.specs.Safe.{is_printable_byte, is_clean_link, may_stay, is_safe}
 use Rattle.ansi_safe.proofs.SafeLemmas.{IsGood, AreGood, good_are_safe}
 use Rattle.ansi_restyle.specs.Links.{is_clean_address, link_to, as_link, without_links}
 use Rattle.ansi_restyle.specs.Ranges.{are_in_turn, parts_line_end, keep_line_ends}
 use Rattle.ansi_restyle.specs.Restyled.{front, rest}
 use Rattle.ansi_restyle.proofs.FrontLemmas.{plain-rest}
-use Rattle.ansi_restyle.proofs.LinkRangeLemmas.{link_to-sequence, link_to-terminator, link_to-is_link, full}
+use Rattle.ansi_restyle.proofs.LinkRangeLemmas.{clean_parts, link_to-sequence, link_to-terminator, link_to-fields, link_to-address, link_to-is_link, full}
 use Rattle.ansi_restyle.proofs.RangeLemmas.{are_first}
 use Rattle.ansi_restyle.proofs.SafeRangeLemmas.{IsMade, made-append, safe_good, keep_parts, parts-drop}
 use Rattle.ansi_restyle.proofs.SafeEditLemmas.{unlinked_good, rest_good, front_is_good, made-good, made-front}
@@ -58,8 +60,17 @@ link_to-printable a clean =
     ap (list_all is_printable_byte) (ap (λ k. take k (within ++ 27 ∷ 92 ∷ [])) n ∙ take-append_seam within (27 ∷ 92 ∷ []))
     ∙ (and_parts _ (list_all is_printable_byte a) clean).1
 
+link_to-short : (a : List ℕ) → is_clean_address a ≡ true → is_short_link (link_to a) ≡ true
+link_to-short a clean =
+    and_from _ _ (link_to-is_link a)
+    (and_from _ _ (ap (λ fields. nat_le (prefix_len (λ b. not (b == byte ";")) fields) longest_parameters) (link_to-fields a))
+    (ap (λ o. nat_le (length (unwrap_or o [])) longest_address) (link_to-address a) ∙ short (length a) (clean_parts a clean).0))
+  where
+    short : (n : ℕ) → is_in_range 1 longest_address n ≡ true → nat_le n longest_address ≡ true
+    short n is = grind (arith, nat_tests)
+
 link_to-good : (a : List ℕ) → is_clean_address a ≡ true → IsGood Keep (Sequence (link_to a))
-link_to-good a clean = (link_to-sequence a clean, by (is_sgr (link_to a)) (and_from _ _ (link_to-is_link a) (link_to-printable a clean)))
+link_to-good a clean = (link_to-sequence a clean, by (is_sgr (link_to a)) (and_from _ _ (link_to-short a clean) (link_to-printable a clean)))
   where
     by : (s : Bool) → is_clean_link (link_to a) ≡ true → (s || is_clean_link (link_to a)) ≡ true
     by true is = refl

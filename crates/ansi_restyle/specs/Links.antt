@@ -1,10 +1,11 @@
 -- The links of a text, and the text without them or with a range linked.
 use Rattle.std.specs.Prelude.{◌≡◌, ℕ, ◌+◌, ◌-◌, ◌==◌, ◌&&◌, Bool, not, List, [], ◌∷◌, ◌++◌, length, map, filter, flat_map, take, drop, replicate, nat_lt, unwrap_or, IsTrue, if◌then◌else◌, codes}
+use Rattle.std.specs.Int.{is_in_range}
 use Rattle.std.specs.List.{list_all, list_any}
 use Rattle.ansi_items.specs.Pieces.{spelling, pieces_of}
 use Rattle.ansi_items.specs.Plain.{Mark, plain, marks, is_whole}
 use Rattle.ansi_style.specs.Styled.{styled, residue}
-use Rattle.ansi_safe.specs.Links.{address_of, is_link, link_at, link_end, link_of}
+use Rattle.ansi_safe.specs.Links.{longest_address, address_of, is_link, link_at, link_end, link_of}
 use Rattle.ansi_safe.specs.Safe.{is_printable_byte}
 use Rattle.ansi_restyle.specs.Linked.{links_in}
 use Rattle.ansi_restyle.specs.Ranges.{are_in_turn}
@@ -65,9 +66,9 @@ links_of_walk walk =
 
 -- A text with a range linked.
 
--- an address is clean if it isn't empty, and each byte of it is printable ASCII, as in a clean link sequence
+-- an address is clean if it has at least one byte, no more than `longest_address`, and each is printable ASCII, as in a clean link sequence
 abbrev pub is_clean_address : List ℕ → Bool
-is_clean_address address = nat_lt 0 (length address) && list_all is_printable_byte address
+is_clean_address address = is_in_range 1 longest_address (length address) && list_all is_printable_byte address
 
 -- the sequence that opens a link to an address (OSC 8)
 abbrev pub link_to : List ℕ → List ℕ

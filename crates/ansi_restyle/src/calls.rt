@@ -461,8 +461,9 @@ pub trait AnsiRestyle: AnsiStr {
     /// The link is an OSC 8 sequence without parameters.
     ///
     /// A range is a pair of positions, which count bytes of the plain text. It is `None` exactly if
-    /// `ansi_restyle` would refuse the range, or if the address is empty or has a byte that isn't
-    /// printable ASCII (20 to 7E). So write other characters of an address as `%` and two digits.
+    /// `ansi_restyle` would refuse the range, or if the address is empty, has more than 2,083 bytes, or
+    /// has a byte that isn't printable ASCII (20 to 7E). So write other characters of an address as `%`
+    /// and two digits.
     ///
     /// If the text is safe (`ansi_is_safe`), the result is safe with `Links::Keep`, unless the range
     /// begins or ends between a carriage return and a line feed.

@@ -17,7 +17,7 @@ ghost use Rattle.ansi_restyle.specs.Ranges.{are_in_turn, keep_line_ends};
 
 use crate::rest::Rest;
 use ansi_items::ansitok::{Kind, Scanner};
-use ansi_safe::links::{address_of, pen_after, pen_after_from, terminator_len};
+use ansi_safe::links::{LONGEST_ADDRESS, address_of, pen_after, pen_after_from, terminator_len};
 use ansi_search::search;
 use std::alloc::{AllocError, Allocator};
 use std::borrow::CowStr;
@@ -277,7 +277,7 @@ fn in_three(text: &str, range: (usize, usize)) -> Option<(&str, &str, &str)>
 fn is_clean_address(address: &str) -> bool
     ensures { result ≡ is_clean_address address.now }
 {
-    !address.is_empty() && is_printable(address)
+    (1..=LONGEST_ADDRESS).contains(&address.len()) && is_printable(address)
 }
 
 /// Whether each byte of the text is printable ASCII.

@@ -18,7 +18,7 @@ use Rattle.ansi_items.specs.declared.ansitok.Kind.{Kind}
 use Rattle.ansi_items.specs.declared.ansitok.Kind.TheVariants.{Text as TextKind, Sgr, Other, Lone}
 use Rattle.ansi_items.proofs.PieceLemmas.{pieces_are}
 use Rattle.ansi_items.proofs.StepLemmas.{gives_mark}
-use Rattle.ansi_safe.specs.Links.{terminator_len, address_of, is_link}
+use Rattle.ansi_safe.specs.Links.{terminator_len, fields_of, address_of, is_link}
 use Rattle.ansi_safe.proofs.LinkLemmas.{is_link-sgr, has_no_semicolon}
 
 -- what the scanner gives as another sequence is a whole one
@@ -137,7 +137,7 @@ address-in w a p utf8 ended = λ less ascii is.
 
 pub address-stands : (w a : List ℕ) → IsUtf8 w → IsSequence w → Some a ≡ address_of w → IsAddressAt w a
 address-stands w a utf8 sequence is =
-    let fields = slice_range w 4 (length w - terminator_len w) in
+    let fields = fields_of w in
     let p = prefix_len has_no_semicolon fields in
     let parts = some_parts (starts_with nat_eq w link_opening) (nat_lt p (length fields)) a (drop (p + 1) fields) is in
     let less = ltb-true p (length fields) parts.1 in

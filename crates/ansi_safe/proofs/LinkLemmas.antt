@@ -25,7 +25,7 @@ use Rattle.ansi_style.proofs.ReadBackLemmas.{code_pieces}
 use Rattle.ansi_style.proofs.SgrLemmas.{apply-no_sgr}
 use Rattle.ansi_style.proofs.StyledLemmas.{style_through, style_after_from-pieces}
 use Rattle.ansi_style.proofs.ThroughLemmas.{state_through, state_after-marks_of}
-use Rattle.ansi_safe.specs.Links.{terminator_len, address_of, is_link, opens_link, link_of, link_after, link_after_all}
+use Rattle.ansi_safe.specs.Links.{fields_of, address_of, is_link, opens_link, link_of, link_after, link_after_all}
 
 -- The address of a link sequence, by the place of its second semicolon.
 
@@ -38,22 +38,22 @@ address_in begins fields =
     let parameters = prefix_len has_no_semicolon fields in
     if begins && nat_lt parameters (length fields) then Some (drop (parameters + 1) fields) else None
 
-abbrev fields_of : List ℕ → List ℕ
-fields_of w = slice_range w 4 (length w - terminator_len w)
-
 no_semicolon : (b : ℕ) → is_byte 59 b ≡ false → has_no_semicolon b ≡ true
 no_semicolon b h = grind (arith, nat_tests)
 
 semicolon_stops : (b : ℕ) → is_byte 59 b ≡ true → has_no_semicolon b ≡ false
 semicolon_stops b h = grind (arith, nat_tests)
 
+pub parameters-found : (fields : List ℕ) (n : ℕ) → IsFirstByte (is_byte 59) fields (Some n) → prefix_len has_no_semicolon fields ≡ n
+parameters-found fields n first =
+    prefix_len_is has_no_semicolon fields n 0 (omega (arith, first.0.high))
+    (λ j below. no_semicolon (get_or fields j 0) (false_from_ne_true _ (first.0.before j (omega arith) below)))
+    (λ inside. semicolon_stops (get_or fields n 0) first.1)
+
 pub address-found : (w fields : List ℕ) (n : ℕ) → starts_with nat_eq w (codes "\u{1b}]8;") ≡ true → fields ≡ fields_of w → IsFirstByte (is_byte 59) fields (Some n)
     → Some (take (length fields - (n + 1)) (drop (n + 1) fields)) ≡ address_of w
 address-found w fields n begins is first =
-    let parameters : prefix_len has_no_semicolon fields ≡ n
-    = prefix_len_is has_no_semicolon fields n 0 (omega (arith, first.0.high))
-    (λ j below. no_semicolon (get_or fields j 0) (false_from_ne_true _ (first.0.before j (omega arith) below)))
-    (λ inside. semicolon_stops (get_or fields n 0) first.1) in
+    let parameters = parameters-found fields n first in
     ap Some (take_all (length fields - (n + 1)) (drop (n + 1) fields) (omega (arith, length-drop (n + 1) fields)))
     ∙ sym (
     ap₂ address_in begins (sym is)

@@ -1,5 +1,5 @@
 -- The hyperlink at a place of a text, and the sequence that closes it.
-use Rattle.std.specs.Prelude.{◌≡◌, ℕ, ◌+◌, ◌-◌, ◌==◌, Bool, not, ◌&&◌, List, [], ◌++◌, length, map, drop, filter, reverse, slice_range, slice_get, nat_eq, nat_lt, Option, Some, None, is_some, unwrap_or, fold, if◌then◌else◌, codes}
+use Rattle.std.specs.Prelude.{◌≡◌, ℕ, ◌+◌, ◌-◌, ◌==◌, Bool, not, ◌&&◌, List, [], ◌++◌, length, map, drop, filter, reverse, slice_range, slice_get, nat_eq, nat_lt, nat_le, Option, Some, None, is_some, unwrap_or, fold, if◌then◌else◌, codes}
 use Rattle.std.specs.List.{prefix_len, starts_with, ends_with}
 use Rattle.std.specs.Str.{byte}
 use Rattle.ansi_items.specs.Plain.{Mark, marks, marks_up_to}
@@ -11,13 +11,19 @@ use Rattle.ansi_style.specs.Written.{close}
 abbrev pub terminator_len : List ℕ → ℕ
 terminator_len w = if ends_with nat_eq w (codes "\u{7}") then 1 else 2
 
+-- what the sequence w has between its `8;` and its terminator, if it is a link sequence: parameters, `;` and an address (OSC 8)
+abbrev pub fields_of : List ℕ → List ℕ
+fields_of w = slice_range w 4 (length w - terminator_len w)
+
+-- how many bytes its parameters have, which end before the first `;`
+abbrev pub parameters_len : List ℕ → ℕ
+parameters_len w = prefix_len (λ b. not (b == byte ";")) (fields_of w)
+
 -- the address of the whole sequence w, if it is a link sequence: ESC `]8;`, parameters, `;` and an address (OSC 8)
 abbrev pub address_of : List ℕ → Option (List ℕ)
 address_of w =
-    let fields = slice_range w 4 (length w - terminator_len w) in
-    let parameters = prefix_len (λ b. not (b == byte ";")) fields in
-    if starts_with nat_eq w (codes "\u{1b}]8;") && nat_lt parameters (length fields)
-    then Some (drop (parameters + 1) fields) else None
+    if starts_with nat_eq w (codes "\u{1b}]8;") && nat_lt (parameters_len w) (length (fields_of w))
+    then Some (drop (parameters_len w + 1) (fields_of w)) else None
 
 -- the sequence w opens or closes a link
 abbrev pub is_link : List ℕ → Bool
@@ -26,6 +32,18 @@ is_link w = is_some (address_of w)
 -- a link sequence opens a link if its address isn't empty
 abbrev pub opens_link : List ℕ → Bool
 opens_link w = nat_lt 0 (length (unwrap_or (address_of w) []))
+
+-- the greatest length of the address of a short link, in bytes (what Internet Explorer and VTE take)
+abbrev pub longest_address : ℕ
+longest_address = 2083
+
+-- the greatest length of its parameters: `id=` and 250 bytes (VTE)
+abbrev pub longest_parameters : ℕ
+longest_parameters = 253
+
+-- the sequence w is a link sequence whose parameters and address are no longer than that
+abbrev pub is_short_link : List ℕ → Bool
+is_short_link w = is_link w && (nat_le (parameters_len w) longest_parameters && nat_le (length (unwrap_or (address_of w) [])) longest_address)
 
 -- the link after marks is the last link sequence among them, if that opens one; else it is empty (own)
 abbrev pub link_of : List Mark → List ℕ

@@ -9,7 +9,7 @@ use Rattle.ansi_safe.specs.declared.front.ByteSet.{ByteSet}
 use Rattle.ansi_safe.specs.declared.front.ByteSet.TheVariants.{Printable, Ordinary}
 use Rattle.ansi_safe.specs.declared.policy.Links.{Links}
 use Rattle.ansi_safe.specs.declared.policy.Links.TheVariants.{Keep, Remove}
-use Rattle.ansi_safe.specs.Links.{terminator_len, is_link}
+use Rattle.ansi_safe.specs.Links.{terminator_len, is_short_link}
 
 -- a control character is one of U+0000 to U+001F, or of U+007F to U+009F (Unicode, section 23.1)
 abbrev pub is_control : ℕ → Bool
@@ -50,9 +50,9 @@ abbrev pub is_in : ByteSet → ℕ → Bool
 is_in Printable = is_printable_byte
 is_in (Ordinary white) = is_ordinary_byte white
 
--- a link sequence is clean if each byte between its ESC `]` and its terminator is printable ASCII (OSC 8)
+-- a link sequence is clean if it is short, and each byte between its ESC `]` and its terminator is printable ASCII (OSC 8)
 abbrev pub is_clean_link : List ℕ → Bool
-is_clean_link w = is_link w && list_all is_printable_byte (slice_range w 2 (length w - terminator_len w))
+is_clean_link w = is_short_link w && list_all is_printable_byte (slice_range w 2 (length w - terminator_len w))
 
 -- a run may stay if each of its characters is allowed where it is; an SGR may stay, and a clean link sequence if links are kept; no other sequence, and no lone escape
 abbrev pub may_stay : Links → Piece → Bool

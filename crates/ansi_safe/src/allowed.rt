@@ -7,7 +7,7 @@ ghost use Rattle.ansi_safe.specs.Safe.{is_printing, is_allowed, all_allowed, is_
 ghost use Rattle.ansi_safe.specs.Safe.{may_stay};
 
 use crate::front::{ByteSet, front_len, split_ordinary};
-use crate::links::{address_of, terminator_len};
+use crate::links::{is_short_link, terminator_len};
 use crate::policy::Links;
 use ansi_items::ansitok::{Item, Kind};
 
@@ -40,11 +40,11 @@ pub(crate) fn may_stay(kind: Kind, piece: &str, links: Links) -> bool
     }
 }
 
-/// Whether this is a link sequence whose bytes are printable ASCII.
+/// Whether this is a short link sequence whose bytes are printable ASCII.
 fn is_clean_link(sequence: &[u8]) -> bool
     ensures { result ≡ is_clean_link sequence.now }
 {
-    if address_of(sequence).is_none() {
+    if !is_short_link(sequence) {
         return false;
     }
     let end = sequence.len() - terminator_len(sequence);

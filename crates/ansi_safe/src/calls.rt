@@ -26,8 +26,9 @@ pub trait AnsiSafe: AnsiStr {
     /// select graphic renditions and, if links are kept, clean link sequences.
     ///
     /// A carriage return is allowed directly before a line feed of the same run alone. A link
-    /// sequence (OSC 8) is clean if each byte between its `ESC ]` and its terminator is one of 20 to
-    /// 7E. So there is no other sequence, no lone escape, no other control (U+0000 to U+001F and
+    /// sequence (OSC 8) is clean if its address has at most 2,083 bytes and its parameters have at most
+    /// 253, and each byte between its `ESC ]` and its terminator is one of 20 to 7E. So there is no
+    /// other sequence, no lone escape, no other control (U+0000 to U+001F and
     /// U+007F to U+009F), and no bidirectional embedding, override or isolate (U+202A to U+202E and
     /// U+2066 to U+2069). A safe text may leave a style or a link open. Doesn't allocate. (Own.)
     ///

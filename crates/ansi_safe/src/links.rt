@@ -1,6 +1,6 @@
 //! The link and the style open at the end of a text, and what closes both.
 ghost use Rattle.std.specs.Prelude.{◌≡◌, ◌++◌, Option, length, OnOk, IsTrue, IsFalse, ◌↔◌, []};
-ghost use Rattle.std.specs.Prelude.{string_bytes};
+ghost use Rattle.std.specs.Prelude.{string_bytes, IfSome};
 ghost use Rattle.std.specs.Option.{option_map};
 ghost use Rattle.ansi_items.specs.Plain.{marks};
 ghost use Rattle.ansi_style.specs.States.{rendition_of};
@@ -8,7 +8,7 @@ ghost use Rattle.ansi_style.specs.Rendition.{plain_style};
 ghost use Rattle.ansi_style.specs.Styled.{style_after};
 ghost use Rattle.ansi_style.specs.Reading.{style_after_from};
 ghost use Rattle.ansi_safe.specs.Links.{terminator_len, address_of, link_of, link_after};
-ghost use Rattle.ansi_safe.specs.Links.{link_after_all};
+ghost use Rattle.ansi_safe.specs.Links.{link_after_all, parameters_len, is_short_link};
 
 use ansi_items::ansitok::{Kind, Scanner};
 use ansi_style::state::Style;
@@ -22,6 +22,13 @@ const LINK_END: &str = "\u{1b}]8;;\u{1b}\\";
 /// The greatest length of what ends a link and a style, in bytes: `longest_link_end` and
 /// `longest_close`.
 pub const LONGEST_ENDING: usize = 95;
+
+/// The greatest length of a link's address in a safe text, in bytes (what Internet Explorer and VTE
+/// take).
+pub const LONGEST_ADDRESS: usize = 2083;
+
+/// The greatest length of its parameters, in bytes: `id=` and 250 bytes (VTE).
+const LONGEST_PARAMETERS: usize = 253;
 
 /// The style open at a place of a text, and the sequence that opened its link, which is empty if no
 /// link is open.
@@ -125,13 +132,34 @@ pub fn link_after<'t>(link: &'t str, sequence: &'t str) -> &'t str
 pub fn address_of(sequence: &[u8]) -> Option<&[u8]>
     ensures { option_map (λ a. a.now) result ≡ address_of sequence.now }
 {
+    let (_, address) = fields_of(sequence)?;
+    Some(address)
+}
+
+/// Whether a whole sequence is a link sequence (OSC 8) that a safe text may have: its parameters and
+/// its address aren't too long.
+pub fn is_short_link(sequence: &[u8]) -> bool
+    ensures { result ≡ is_short_link sequence.now }
+{
+    let Some((parameters, address)) = fields_of(sequence) else {
+        return false;
+    };
+    parameters.len() <= LONGEST_PARAMETERS && address.len() <= LONGEST_ADDRESS
+}
+
+/// The parameters and the address of a whole sequence, or `None` if it is no link sequence (OSC 8).
+fn fields_of(sequence: &[u8]) -> Option<(&[u8], &[u8])>
+    ensures parameters { IfSome result (λ f.
+        length f.0.now ≡ parameters_len sequence.now) }
+    ensures address { option_map (λ f. f.1.now) result ≡ address_of sequence.now }
+{
     if !sequence.starts_with(b"\x1b]8;") {
         return None;
     }
     let end = sequence.len() - terminator_len(sequence);
     let fields = sequence.get(4..end)?;
     let parameters = memchr(b';', fields)?;
-    Some(&fields[parameters + 1..])
+    Some((&fields[..parameters], &fields[parameters + 1..]))
 }
 
 /// The length of the terminator of an operating system command, in bytes.

@@ -8,7 +8,8 @@
 /// ```
 #[derive(Debug, Clone, Copy, PartialEq, Eq)]
 pub enum Links {
-    /// A link sequence stays if each byte between its `ESC ]` and its terminator is printable ASCII.
+    /// A link sequence stays if its address has at most 2,083 bytes and its parameters have at most 253,
+    /// and each byte between its `ESC ]` and its terminator is printable ASCII.
     Keep,
     /// A link sequence is like any other sequence that isn't allowed in a safe text.
     Remove,

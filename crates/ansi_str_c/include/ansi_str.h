@@ -132,8 +132,14 @@ enum {
     ANSI_STR_SHOW = 1
 };
 
-/* What is made of the links (OSC 8) of a text: all are unsafe, or a link is kept if each byte between its ESC "]" and its
-   terminator is printable ASCII. */
+/* The most bytes that the address of a link (OSC 8), and its parameters, such as "id=1", have in a safe text. */
+enum {
+    ANSI_STR_LONGEST_ADDRESS = 2083,
+    ANSI_STR_LONGEST_PARAMETERS = 253
+};
+
+/* What is made of the links of a text: all are unsafe, or a link is kept if its address and its parameters are no longer than
+   that, and each byte between its ESC "]" and its terminator is printable ASCII. */
 enum {
     ANSI_STR_REMOVE_LINKS = 0,
     ANSI_STR_KEEP_LINKS = 1
@@ -653,8 +659,8 @@ static inline ansi_str_answer ansi_str_replace_each(const char *text, size_t tex
    the range loses another link that it had. Every other character keeps its link: one that goes on into the range ends before it,
    and one that goes on after it is opened again there. The plain text, the styles and all other sequences stay. The result is at
    most 21 bytes longer than the text, the address, and the sequence of the link that is open at `end`. ANSI_STR_REFUSED: as
-   ansi_str_remove; or the address is empty or has a byte that isn't printable ASCII (20 to 7E). ANSI_STR_NOT_UTF8: the text or the
-   address isn't UTF-8. Allocates if the range isn't empty, on any text.
+   ansi_str_remove; or the address is empty, has more than ANSI_STR_LONGEST_ADDRESS bytes, or has a byte that isn't printable
+   ASCII (20 to 7E). ANSI_STR_NOT_UTF8: the text or the address isn't UTF-8. Allocates if the range isn't empty, on any text.
    "see \x1b[1mhere" from 4 up to 8 with "http://x" gives "see \x1b[1m\x1b]8;;http://x\x1b\\here\x1b]8;;\x1b\\". */
 static inline ansi_str_answer ansi_str_link(const char *text, size_t text_len, size_t start, size_t end, const char *address,
                                             size_t address_len, char *buffer, size_t buffer_len) {
@@ -699,7 +705,7 @@ static inline ansi_str_answer ansi_str_pen_after(const char *text, size_t text_l
 }
 
 /* The sequences that open both again, such as before the next of several lines: those that set the style, and then the one that
-   opened the link, unless that has anything but printable ASCII. What an unknown SGR code has set isn't set again. At most
+   opened the link, if a safe text keeps that. What an unknown SGR code has set isn't set again. At most
    ANSI_STR_LONGEST_START + text_len bytes. Allocates if a style or a link is open.
    After "\x1b[1;31mred" they are "\x1b[1m\x1b[31m". */
 static inline ansi_str_answer ansi_str_pen_start(const char *text, size_t text_len, char *buffer, size_t buffer_len) {

@@ -311,9 +311,9 @@ def is_whole(text: str) -> bool:
 
 def sanitize(text: Union[str, bytes], *, show: bool = False, links: bool = False) -> str:
     """The text made safe, so that it can't drive the terminal. Printing characters, TAB, line feeds, carriage returns directly
-    before a line feed and SGRs stay, and with `links` links (OSC 8) of printable ASCII. Any other sequence, lone ESC, control
-    character or bidirectional control is dropped, or with `show` shown in printing characters. The link and then the style still
-    open at the end are closed.
+    before a line feed and SGRs stay, and with `links` links (OSC 8) of printable ASCII, with an address of at most 2083 characters
+    and parameters of at most 253. Any other sequence, lone ESC, control character or bidirectional control is dropped, or with
+    `show` shown in printing characters. The link and then the style still open at the end are closed.
 
     The text may be `bytes`: then what isn't UTF-8 becomes U+FFFD, as by `bytes.decode(errors="replace")`. A `str` with
     surrogates for such bytes (PEP 383, `surrogateescape`), as in a file's name, is made safe as these bytes are.
@@ -575,7 +575,7 @@ def link(text: str, start: int, end: int, address: str) -> str:
     """The text with what its plain text has from one position up to another linked to an address (OSC 8). Each character there loses
     another link that it had. Every other character keeps its link: one that goes on into the range ends before it, and one that goes
     on after it is opened again there. The plain text, the styles and all other sequences stay. ValueError: as by `remove`; or the
-    address is empty, or has a character that isn't printable ASCII.
+    address is empty, is longer than 2083 characters, or has one that isn't printable ASCII.
 
     >>> link("see \\x1b[1mhere", 4, 8, "http://x")
     'see \\x1b[1m\\x1b]8;;http://x\\x1b\\\\here\\x1b]8;;\\x1b\\\\'
@@ -583,6 +583,8 @@ def link(text: str, start: int, end: int, address: str) -> str:
     data = _utf8("address", address)
     if not data or not all(0x20 <= byte <= 0x7E for byte in data):
         raise ValueError("address must be printable ASCII, and not empty, not {!r}".format(address))
+    if len(data) > 2083:
+        raise ValueError("address must have at most 2083 characters, not {}".format(len(data)))
     return _ranged(text, _LINK, _position("start", start), _position("end", end), data)
 
 
@@ -1033,8 +1035,8 @@ def pen_after(text: str) -> Pen:
     >>> first + pen.end, pen.start + second
     ('\\x1b[31mone\\x1b[39m', '\\x1b[31mtwo\\x1b[39m')
 
-    The pen after the second line is `pen_after(pen.start + second)`. `start` doesn't open a link whose sequence has anything but printable
-    ASCII, and doesn't set again what an unknown SGR code has set.
+    The pen after the second line is `pen_after(pen.start + second)`. `start` doesn't open a link that `sanitize` wouldn't keep, and doesn't
+    set again what an unknown SGR code has set.
     """
     sequences = remove(text, 0, len(strip(text)))
     _, style, link, _ = blocks(sequences + _CELL)[0]

@@ -2,7 +2,7 @@
 //! shows, and that it is safe, on one line, and with nothing open; not which sequences it has.
 
 use crate::columns::{
-    address, clusters, expanded, is_clean, lines, paragraph, width, Class, ALIGNMENTS, SIDES,
+    address, clusters, expanded, is_clean_link, lines, paragraph, width, Class, ALIGNMENTS, SIDES,
 };
 use crate::style::Style;
 use crate::text::{Kind, Text};
@@ -98,7 +98,7 @@ impl Row {
             _ if Class::of(character) == Class::Control => None,
             _ => Some(character),
         };
-        Row::new(spelled, shown, is_clean)
+        Row::new(spelled, shown, is_clean_link)
     }
 
     pub(crate) fn characters(&self) -> String {
@@ -247,14 +247,13 @@ fn made<'t>(text: &'t str, edit: &ColumnEdit<'_>) -> Cow<'t, str> {
 fn expect_line(tally: &mut Tally, got: &str, want: &Row, name: impl std::fmt::Debug + Copy) {
     let text = Text::new(got);
     let row = Row::all(got);
-    let is_kept = |spelled: &str| address(spelled).is_some() && is_clean(spelled);
     let is_safe = text.items.iter().all(|item| match item.kind {
         Kind::Run => item
             .spelled
             .chars()
             .all(|it| Class::of(it) != Class::Control),
         Kind::Sgr => true,
-        Kind::Other => is_kept(item.spelled),
+        Kind::Other => is_clean_link(item.spelled),
         Kind::LoneEscape => false,
     });
     tally.expect(is_safe, true, name);

@@ -141,10 +141,16 @@ pub(crate) fn address(sequence: &str) -> Option<&str> {
     Some(address)
 }
 
-/// Whether a control string has printing ASCII alone.
-pub(crate) fn is_clean(sequence: &str) -> bool {
+/// Whether a sequence is a link of printing ASCII alone, with parameters of at most 253 bytes and an address of at most 2,083.
+pub(crate) fn is_clean_link(sequence: &str) -> bool {
     let is_printing = |byte| matches!(byte, 0x20..=0x7e);
-    command(sequence).map_or(false, |it| it.bytes().all(is_printing))
+    let link = command(sequence).and_then(|it| it.strip_prefix("8;"));
+    let is_short =
+        |(parameters, address): (&str, &str)| parameters.len() < 254 && address.len() < 2084;
+    link.map_or(false, |it| it.bytes().all(is_printing))
+        && link
+            .and_then(|it| it.split_once(';'))
+            .map_or(false, is_short)
 }
 
 /// A text with its runs as a place shows them. Of its sequences select graphic renditions and clean links stay.
@@ -153,9 +159,7 @@ fn placed(spelled: &str, shown: impl Fn(&str) -> String) -> String {
     let piece = |item: &Item| match item.kind {
         Kind::Run => shown(item.spelled),
         Kind::Sgr => item.spelled.to_owned(),
-        Kind::Other if address(item.spelled).is_some() && is_clean(item.spelled) => {
-            item.spelled.to_owned()
-        }
+        Kind::Other if is_clean_link(item.spelled) => item.spelled.to_owned(),
         Kind::Other | Kind::LoneEscape => String::new(),
     };
     items.iter().map(piece).collect()
