@@ -16,9 +16,13 @@
    Time. A call that takes the index of a part or a block walks to it from the front of the text, each time. So a loop over
    all indices takes time in proportion to their number times the text's length: for n blocks of a few bytes about n/4 times
    that of ansi_str_blocks, and for n such parts about n/6 times that of ansi_str_split. These two return all in one walk,
-   and ansi_str_styled_blocks also the sequences that set and close the style of each block. On a text with ESC a buffer that
-   is too small saves no work: asking for the length first takes twice the time. Most calls say how much room is always
-   enough.
+   and ansi_str_styled_blocks also the sequences that set and close the style of each block. ansi_str_find_from reads the text
+   from its front too: a loop of it over n matches takes about n/2 times the time of ansi_str_matches, which returns all in one
+   walk. On a text with ESC a buffer that is too small saves no work: asking for the length first takes twice the time.
+
+   Room. Most calls say how much room is always enough. A buffer of length 0 asks how much a result needs: the call returns
+   ANSI_STR_TOO_SMALL and the length. It makes the result in memory for that. Only the results of ansi_str_replace_all and
+   ansi_str_replace_each can grow with the square of the text, if its links are long: see there how to ask for a bound first.
 
    A program is C99 or C++11, or later. `pkg-config --cflags --libs ansi_str` prints the flags to link the installed
    library. */
@@ -132,10 +136,11 @@ enum {
     ANSI_STR_SHOW = 1
 };
 
-/* The most bytes that the address of a link (OSC 8), and its parameters, such as "id=1", have in a safe text. */
+/* The most bytes that the address of a link (OSC 8) has in a safe text, its parameters, such as "id=1", and the sequence of both. */
 enum {
     ANSI_STR_LONGEST_ADDRESS = 2083,
-    ANSI_STR_LONGEST_PARAMETERS = 253
+    ANSI_STR_LONGEST_PARAMETERS = 253,
+    ANSI_STR_LONGEST_LINK = 2343
 };
 
 /* What is made of the links of a text: all are unsafe, or a link is kept if its address and its parameters are no longer than
@@ -530,7 +535,8 @@ static inline ansi_str_answer ansi_str_find(const char *text, size_t text_len, c
 }
 
 /* The position of the pattern's first match in the plain text that doesn't begin before a position, which may be inside a
-   character, as the returned length. ANSI_STR_NO: there is no such match. Doesn't allocate.
+   character, as the returned length. It reads the text from the front each time: for all matches call ansi_str_matches once.
+   ANSI_STR_NO: there is no such match. Doesn't allocate.
    In "ab\x1b[1mab" from 1 on "ab" is at 2. */
 static inline ansi_str_answer ansi_str_find_from(const char *text, size_t text_len, size_t position, const char *pattern,
                                                  size_t pattern_len) {
@@ -622,8 +628,11 @@ static inline ansi_str_answer ansi_str_insert(const char *text, size_t text_len,
 
 /* The text with another text in place of each match of the pattern, as ansi_str_matches finds them and ansi_str_replace replaces
    each: the new text is in the style and the link that the character before the match has in this text. Every other character
-   keeps its style and its link as there, and every sequence of the text stays. What is put in isn't searched. ANSI_STR_NOT_UTF8:
-   one of the texts isn't UTF-8. Allocates if the pattern matches.
+   keeps its style and its link as there, and every sequence of the text stays. What is put in isn't searched. For each match the result is
+   at most with_len + ANSI_STR_LONGEST_START_AND_CLOSE + ANSI_STR_LONGEST_LINK_END bytes longer than the text, and the sequence
+   that opened the link there: at most ANSI_STR_LONGEST_LINK bytes if the text is safe (ansi_str_is_safe), otherwise up to text_len,
+   so that 16 KB can become 64 MB. ansi_str_matches with no ranges counts the matches first. ANSI_STR_NOT_UTF8: one of the texts
+   isn't UTF-8. Allocates if the pattern matches.
    "\x1b[32mone\x1b[39m, one" with "one" and "two" gives "\x1b[32mtwo\x1b[39m, two". */
 static inline ansi_str_answer ansi_str_replace_all(const char *text, size_t text_len, const char *pattern, size_t pattern_len,
                                                    const char *with, size_t with_len, char *buffer, size_t buffer_len) {
@@ -643,8 +652,9 @@ static inline ansi_str_replacement ansi_str_replacement_of(size_t start, size_t 
 
 /* The text with a text of its own in place of each of many ranges, in one pass. Positions count bytes of the plain text of this
    text. Each range is replaced as ansi_str_replace does it: its new text is in the style and the link that the character before
-   the range has in this text. Every other character keeps its style and its link as there, and every sequence of the text stays.
-   Several texts at one position come in order.
+   the range has in this text. Every other character keeps its style and its link as there, and every sequence of the text stays. Several
+   texts at one position come in order. For each range the result is at most as much longer than the text as ansi_str_replace_all
+   says, with the length of the range's own text.
    ANSI_STR_REFUSED: the ranges are refused as by ansi_str_restyle. ANSI_STR_NOT_UTF8: one of the texts isn't UTF-8. Allocates if
    there is a range, on any text.
    "one \x1b[32mtwo\x1b[39m" with "1" from 0 up to 3 and "2" from 4 up to 7 gives "1 2\x1b[32m\x1b[39m". */
@@ -1117,7 +1127,8 @@ static inline ansi_str_answer ansi_str_edit_columns(const char *text, size_t tex
    A line ends at "\n", at "\r\n", or before a word that doesn't fit, and loses the blanks at its end; a word that is too wide
    is broken at the end of a cluster. An indent stays if its word fits after it. A width of 0 counts as 1. Each line closes the
    link (OSC 8) and then the style that it leaves open, and the next line reopens them. There is at most one line more than the
-   plain text has bytes.
+   plain text has bytes. All lines together are at most text_len bytes, and for each line ANSI_STR_LONGEST_START_AND_CLOSE +
+   ANSI_STR_LONGEST_LINK + ANSI_STR_LONGEST_LINK_END more.
    ANSI_STR_TOO_SMALL: the buffer or `ends` is too small; the call returns how many bytes and how many lines there are.
    "\x1b[31mlion tiger" in 5 columns gives "\x1b[31mlion\x1b[39m" and "\x1b[31mtiger\x1b[39m". */
 static inline ansi_str_answers ansi_str_wrap(const char *text, size_t text_len, size_t width, char *buffer, size_t buffer_len,
