@@ -33,10 +33,11 @@ fn packaged(libraries: &Path) -> Vec<String> {
     targets
 }
 
-/// Links the library of the package, if it is for this target.
+/// Links the library of the package, if it is for this target. That for glibc is for musl too: it takes its memory from the C library by
+/// `malloc` and the like, and nothing else that differs.
 fn link_packaged(libraries: &Path) {
     let target = env::var("TARGET").expect("cargo sets TARGET");
-    let folder = libraries.join(&target);
+    let folder = libraries.join(target.replace("-linux-musl", "-linux-gnu"));
     if !folder.is_dir() {
         eprintln!(
             "ansi-str: this package has its library for {} alone, not for {target}. \
