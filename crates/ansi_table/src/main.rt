@@ -1,14 +1,16 @@
 //! Prints lines of cells as a table. Each column has a width of its own.
 //!
-//! Cells are separated by tabs. The arguments are the widths, in columns of a terminal. A cell that
-//! is too wide is truncated with an ellipsis, a path in its middle. A cell that is too narrow or
-//! missing is padded with blanks. The styles and the link of a cell end with it. Numbers are aligned
-//! to the right. Other sequences and control characters are left out, as `ansi_pad` does.
+//! Cells are separated by tabs. The arguments are the widths, in columns of a terminal; without them
+//! each column is as wide as its widest cell. A cell that is too wide is truncated with an ellipsis,
+//! a path in its middle, and a number becomes `#`, since a number that is cut would be another one. A
+//! cell that is too narrow or missing is padded with blanks. The styles and the link of a cell end
+//! with it. Numbers are aligned to the right. Other sequences and control characters are left out, as
+//! `ansi_pad` does.
 #![tactic(auto)]
 
 use ansi_columns::{Alignment, AnsiColumns, Side, Truncation};
 use ansi_str::AnsiStr;
-use short_programs::{Stop, end, lines, missing, print_line, text_of, width_of, words};
+use short_programs::{Stop, end, lines, print_line, text_of, width_of, words};
 use std::alloc::{AllocError, Global};
 use std::fmt::Write;
 use std::process::ExitCode;
@@ -22,17 +24,54 @@ fn is_path(plain: &str) -> bool {
     plain.contains('/') && !plain.contains(' ')
 }
 
-// Appends a cell, cut or filled to the width. What is left of it tells whether it is a number.
+// Whether a text has digits alone, and has one.
+fn are_digits(text: &str) -> bool {
+    !text.is_empty() && text.bytes().all(|byte| byte.is_ascii_digit())
+}
+
+// Whether a text is the part of a number before its point: digits, which commas may divide by thousands.
+fn is_whole_number(text: &str) -> bool {
+    let mut groups = text.split(',');
+    let first = groups.next().unwrap_or(text);
+    let is_one = first.len() == text.len();
+    are_digits(first)
+        && (is_one || first.len() <= 3)
+        && groups.all(|group| group.len() == 3 && are_digits(group))
+}
+
+// A text without its sign, if it has one.
+fn without_sign(text: &str) -> &str {
+    let rest = text.strip_prefix('-').or(text.strip_prefix('+'));
+    rest.unwrap_or(text)
+}
+
+// Whether a text is a number: a sign, digits, a point with digits, an exponent; all but the digits may
+// be missing.
+fn is_number(plain: &str) -> bool {
+    let (number, exponent) = plain.split_once('e').unwrap_or((plain, "0"));
+    let number = without_sign(number);
+    let (whole, fraction) = number.split_once('.').unwrap_or((number, "0"));
+    is_whole_number(whole) && are_digits(fraction) && are_digits(without_sign(exponent))
+}
+
+// Appends a cell, cut or filled to the width.
 fn push_cell(alloc: Global, row: &mut String, cell: &str, width: usize) -> Result<(), AllocError> {
-    let side = if is_path(cell.ansi_strip(alloc)?.as_str()) {
+    let plain = cell.ansi_strip(alloc)?;
+    let is_number = is_number(plain.as_str());
+    if is_number && width < cell.ansi_width() {
+        write!(row, " {:#<width$} |", "")?;
+        return Ok(());
+    }
+    let side = if is_path(plain.as_str()) {
         Side::Middle
     } else {
         Side::End
     };
     let cut = cell.ansi_truncate_with(alloc, &Truncation::to(width).tail("…").side(side))?;
-    let alignment = match cut.ansi_strip(alloc)?.as_str().parse::<u64>() {
-        Ok(_) => Alignment::Right,
-        Err(_) => Alignment::Left,
+    let alignment = if is_number {
+        Alignment::Right
+    } else {
+        Alignment::Left
     };
     let filled = cut.ansi_pad(alloc, width, alignment)?;
     write!(row, " {filled} |")?;
@@ -52,29 +91,55 @@ fn row_of(alloc: Global, line: &str, widths: &[usize]) -> Result<String, AllocEr
     Ok(row)
 }
 
-// The widths that the words name.
-fn widths_of(rt: &HostRuntime) -> Result<Vec<usize>, Stop> {
-    let words = words(rt)?;
-    if words.is_empty() {
-        return Err(missing("width"));
+// Widens the columns of a table to the cells of a line.
+fn widen(alloc: Global, widths: &mut Vec<usize>, line: &str) -> Result<(), AllocError> {
+    for (column, cell) in line.ansi_split(alloc, "\t").enumerate() {
+        let needed = cell?.ansi_width();
+        match widths.get_mut(column) {
+            Some(width) => *width = needed.max(*width),
+            None => widths.push(needed)?,
+        }
     }
-    let mut widths = Vec::new(rt.alloc());
-    for word in &words {
-        widths.push(width_of(rt.alloc(), word.as_str())?)?;
-    }
-    Ok(widths)
+    Ok(())
 }
 
-// Prints the row of each line of the input. Returns the status.
+// A line of the input as a text, without what ends it.
+fn without_return(line: &str) -> &str {
+    line.strip_suffix('\r').unwrap_or(line)
+}
+
+// Prints the row of each line of the input, and reads all of it first if no word names a width. Returns the status.
 fn print_rows(rt: &HostRuntime) -> Result<u8, Stop> {
     let alloc = rt.alloc();
-    let widths = widths_of(rt)?;
-    for line in lines(rt)? {
-        let line = text_of(alloc, line)?;
-        let text = line.as_str().strip_suffix('\r').unwrap_or(line.as_str());
-        print_line(rt, row_of(alloc, text, widths.as_slice())?.as_str())?;
+    let mut widths = Vec::new(alloc);
+    for word in &words(rt)? {
+        widths.push(width_of(alloc, word.as_str())?)?;
+    }
+    if widths.is_empty() {
+        let mut texts = Vec::new(alloc);
+        for line in lines(rt)? {
+            let text = text_of(alloc, line)?;
+            widen(alloc, &mut widths, without_return(text.as_str()))?;
+            texts.push(text)?;
+        }
+        for text in &texts {
+            print_row(rt, text.as_str(), widths.as_slice())?;
+        }
+    } else {
+        for line in lines(rt)? {
+            let text = text_of(alloc, line)?;
+            print_row(rt, text.as_str(), widths.as_slice())?;
+        }
     }
     Ok(DONE)
+}
+
+// Prints the row of a line.
+fn print_row(rt: &HostRuntime, line: &str, widths: &[usize]) -> Result<(), Stop> {
+    print_line(
+        rt,
+        row_of(rt.alloc(), without_return(line), widths)?.as_str(),
+    )
 }
 
 fn main(rt: HostRuntime) -> ExitCode {
