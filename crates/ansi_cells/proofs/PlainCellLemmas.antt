@@ -36,13 +36,11 @@ use Rattle.ansi_safe.proofs.FrontLemmas.{prefix_len-take}
 use Rattle.ansi_safe.proofs.CellTextLemmas.{cell-stays, whole-cell}
 use Rattle.ansi_safe.proofs.LinkLemmas.{is_link-sgr, link_of-pieces, link_through}
 use Rattle.ansi_clusters.proofs.StepLemmas.{as-least, printable-test}
-use Rattle.ansi_clusters.specs.Views.{seen_text}
 use Rattle.ansi_clusters.specs.Columns.{clusters, columns, columns_of, bytes_of, FitsUpTo, fitting_end}
 use Rattle.ansi_cells.specs.PlainCells.{IsPlainText, last_byte, IsPlainCell}
 use Rattle.ansi_cells.specs.declared.shown.Alignment.{Alignment}
 use Rattle.ansi_cells.specs.Shown.{has_tail, truncated_end, truncated_width, missing, between_blanks, closing, padded, KeptStays}
 use Rattle.ansi_clusters.specs.Letters.{ArePlain, IsPlainFront}
-use Rattle.ansi_clusters.specs.declared.views.View.{View}
 use Rattle.ansi_clusters.specs.declared.views.View.TheVariants.{Given}
 use Rattle.ansi_clusters.proofs.AsciiLemmas.{is_printable, All-printable_is_ascii}
 use Rattle.ansi_clusters.proofs.FitLemmas.{fitting_end-fits}
@@ -50,7 +48,7 @@ use Rattle.ansi_clusters.proofs.LetterLemmas.{front-printable, plain-append, pla
 use Rattle.ansi_cells.proofs.KeptLemmas.{kept-stays}
 use Rattle.ansi_cells.proofs.MissingLemmas.{IsLack, lack-of}
 use Rattle.ansi_cells.proofs.OneLineLemmas.{printing_are_allowed}
-use Rattle.ansi_cells.proofs.PlainTextLemmas.{ArePlainSoFar, plain-columns, plain-begin as runs-begin}
+use Rattle.ansi_cells.proofs.PlainTextLemmas.{ArePlainSoFar, plain-columns}
 use Rattle.ansi_cells.proofs.ShownLawLemmas.{bytes_of-clusters}
 use Rattle.ansi_cells.proofs.ShownLemmas.{IsCutTo, IsCutTo-front, width-fits, ending-closing, padded-between}
 use Rattle.ansi_cells.proofs.SliceLemmas.{offset_of-end}
@@ -272,22 +270,6 @@ plain-bare {width} {left} {last} {style} (b ∷ w) utf8 some all count style_is 
       last_is = last_is ∙ ap last_byte (sym same);
     } in
     (plain-end utf8 so_far refl).0
-
--- what is seen of printable ASCII alone has as many columns as it has bytes
-pub columns-printable : (t : List ℕ) → IsUtf8 t → list_all is_printable t ≡ true → (view : View) → length t ≡ columns (seen_text view t)
-columns-printable [] utf8 all view = plain-columns view utf8 (runs-begin []) refl
-columns-printable (b ∷ w) utf8 all view =
-    let t = b ∷ w in
-    let same : t ++ [] ≡ t = append-nil t in
-    let so_far : ArePlainSoFar t (length t) (length t) (length t) [] = record {
-      front = Text t ∷ [];
-      all = pieces_of-bare t (has_escape-bare t (printable-plain t all));
-      bytes = ap length (sym same);
-      utf8 = subst IsUtf8 (sym same) utf8;
-      plain = subst (λ u. ArePlain (chars u) (length t)) (sym same) (printable-singles t all);
-      count = ap length same;
-    } in
-    plain-columns view utf8 so_far refl
 
 -- ---- the text truncated
 

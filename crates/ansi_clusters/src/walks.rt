@@ -1,7 +1,9 @@
 //! A walk over the clusters of a plain text, and the width of each cluster.
 ghost use Rattle.std.specs.Prelude.{◌≡◌, ◌+◌, ◌*◌, ◌-◌, ◌^◌, ◌<◌, ◌≤◌, [], ◌∷◌, length, encode_utf8};
-ghost use Rattle.std.specs.Prelude.{ℕ, List, ◌++◌, slice_range, MatchOption, IfSome, IsSomeAnd, IsTrue, IsFalse};
+ghost use Rattle.std.specs.Prelude.{ℕ, ◌⊎◌, take, slice_index, slice_range, MatchOption, IfSome, IsSomeAnd, IsTrue, IsFalse};
 ghost use Rattle.std.specs.List.{list_all};
+ghost use Rattle.std.specs.Str.{IsCharBoundary};
+ghost use Rattle.ansi_items.specs.Bytes.{escape, is_plain_byte};
 ghost use Rattle.ansi_search.specs.Offsets.{offset_of};
 ghost use Rattle.ansi_safe.specs.Safe.{is_printable_byte};
 ghost use Rattle.ansi_clusters.specs.declared.views.View.{View};
@@ -19,8 +21,10 @@ use crate::extended::with_added;
 use crate::from_end;
 use crate::singles::{is_single, single_columns};
 use crate::views::View;
-use ansi_items::ansitok::{Item, Kind, Scanner};
+use ansi_items::ansitok::Item;
+use ansi_items::{ESC, mark_at};
 use ansi_safe::printable::printable_len;
+use memchr::memchr;
 use unicode_width::UnicodeWidthChar;
 
 /// The state of a walk over the characters of a plain text.
@@ -79,19 +83,6 @@ impl Walk {
     /// The walk after the next cluster that is seen, and the columns of that cluster. `None` if
     /// nothing more is seen.
     #[inline(always)]
-    pub(crate) fn next_cluster(self, text: &str, view: View) -> Option<(Walk, usize)>
-        requires { IsWalkIn view text.now self }
-        ensures { MatchOption result (seen_after view text.now self.position ≡ []) (λ (walk, width).
-            IsPastCluster view text.now self walk width) }
-    {
-        match self.next_single(text) {
-            Some(past) => Some(past),
-            None => self.read_cluster(text, view),
-        }
-    }
-
-    /// The same, without a fast path.
-    #[inline(always)]
     pub fn read_cluster(self, text: &str, view: View) -> Option<(Walk, usize)>
         requires { IsWalkIn view text.now self }
         ensures { MatchOption result (seen_after view text.now self.position ≡ []) (λ (walk, width).
@@ -112,7 +103,7 @@ impl Walk {
             IsPastCluster view text.now self walk width) }
     {
         if next.end == 0 {
-            return self.next_cluster(text, view);
+            return self.read_cluster(text, view);
         }
         self.cluster_over_runs(text, next, view)
     }
@@ -121,19 +112,6 @@ impl Walk {
     /// be inlined themselves.)
     #[inline(never)]
     fn cluster_over_runs(self, text: &str, next: Run, view: View) -> Option<(Walk, usize)>
-        requires walk { IsWalkIn view text.now self }
-        requires some { 0 < next.end }
-        requires next { IsNextRun view text.now self next }
-        ensures { IsSomeAnd result (λ (walk, width).
-            IsPastCluster view text.now self walk width) }
-    {
-        self.cluster_over(text, next, view)
-    }
-
-    /// The walk after the next cluster, and its columns. The cluster begins with a byte of printable
-    /// ASCII, which is the last one before the run `next`. It is never `None`.
-    #[inline(always)]
-    fn cluster_over(self, text: &str, next: Run, view: View) -> Option<(Walk, usize)>
         requires walk { IsWalkIn view text.now self }
         requires some { 0 < next.end }
         requires next { IsNextRun view text.now self next }
@@ -190,32 +168,6 @@ impl Walk {
         Some((walk, width))
     }
 
-    /// The walk after the next character and the columns of that character, if it and the one after
-    /// it in the run are single. Then it is a cluster by itself.
-    #[inline(always)]
-    fn next_single(self, text: &str) -> Option<(Walk, usize)>
-        requires { IsAnyWalk text.now self }
-        ensures { IfSome result (λ (walk, width). (view : View) → IsWalkIn view text.now self →
-            IsPastCluster view text.now self walk width) }
-    {
-        if !has_second(&text.as_bytes()[self.offset..self.run_end]) {
-            return None;
-        }
-        let mut chars = text[self.offset..self.run_end].chars();
-        let first = chars.next()?;
-        let width = single_columns(first)?;
-        let second = chars.next()?;
-        single_columns(second)?;
-        let len = first.len_utf8();
-        let walk = Walk {
-            position: self.position + len,
-            offset: self.offset + len,
-            run_end: self.run_end,
-            break_state: BreakState::after_single(first),
-        };
-        Some((walk, width))
-    }
-
     /// The walk after clusters that come next, and their columns, at most `most`. Most of them are one
     /// character, which is single. There may be none.
     #[inline(always)]
@@ -227,7 +179,8 @@ impl Walk {
         let run = &text.as_bytes()[self.offset..self.run_end];
         match run {
             [0x20..=0x7E] | [0x20..=0x7E, 0..=0x7F, ..] => {
-                return self.past_ascii_clusters(text, most, view);
+                let (later, len, _) = self.past_ascii(text, most);
+                return (later, len);
             }
             [0x20..=0x7E | 0xC2..=0xEF, ..] => {}
             _ => return (self, 0),
@@ -274,43 +227,6 @@ impl Walk {
             return (later, columns);
         }
         self.past_extended(text, most)
-    }
-
-    /// The same as `past_singles` if printable ASCII comes next in the run.
-    #[inline(always)]
-    fn past_ascii_clusters(self, text: &str, most: usize, view: View) -> (Walk, usize)
-        requires { IsWalkIn view text.now self }
-        ensures past { IsPastClusters view text.now self result.0 result.1 }
-        ensures most { result.1 ≤ most }
-    {
-        let len = self.printable_front(text, most);
-        if 0 < len && len == self.run_end - self.offset {
-            return self.past_run_clusters(text, most, view);
-        }
-        self.past_front(text, len)
-    }
-
-    /// The same for a run that is printable ASCII. If what joins its last byte follows after
-    /// sequences, that cluster is passed too.
-    #[inline(always)]
-    fn past_run_clusters(self, text: &str, most: usize, view: View) -> (Walk, usize)
-        requires walk { IsWalkIn view text.now self }
-        requires some { self.offset < self.run_end }
-        requires bytes { IsTrue (list_all is_printable_byte
-            (slice_range text.now self.offset self.run_end)) }
-        requires most { self.run_end - self.offset ≤ most }
-        ensures past { IsPastClusters view text.now self result.0 result.1 }
-        ensures most { result.1 ≤ most }
-    {
-        let (walk, len, next) = self.past_run(text);
-        if 0 < next.end
-            && let Some((after, width)) = walk.cluster_over(text, next, view)
-            && 0 < width
-            && width <= most - len
-        {
-            return (after, len + width);
-        }
-        (walk, len)
     }
 
     /// The walk after the single characters that come next in the run, and their columns, at most
@@ -680,15 +596,6 @@ impl Walk {
     }
 }
 
-/// Whether more bytes follow a first character that may be single. It saves decoding it if not.
-#[inline(always)]
-fn has_second(bytes: &[u8]) -> bool {
-    match bytes {
-        [0x20..=0x7E, _, ..] | [0xC0..=0xDF, _, _, ..] | [0xE0..=0xF7, _, _, _, ..] => true,
-        _ => false,
-    }
-}
-
 /// Whether a byte is a character of ASCII that is seen in any view.
 #[inline(always)]
 fn is_seen_ascii(byte: u8) -> bool
@@ -724,54 +631,32 @@ pub(crate) fn char_width(c: char) -> usize
     }
 }
 
-/// How many bytes of a text are searched for its first run before all of it is.
+/// How many bytes of a run are searched for its end, so that one that is much longer than a width isn't read
+/// for it.
 const NEAR: usize = 512;
 
 /// The start and the end of the first run of a text, or of a part of that run. Both are the length
 /// of the text if it has no run.
-///
-/// Reads `NEAR` bytes if only whole sequences precede the run there.
 pub fn first_run(text: &str) -> (usize, usize)
     ensures start { result.0 ≡ offset_of text.now 0 }
     ensures run { IsRun text.now result.0 result.1 }
     ensures none { result.0 ≡ result.1 → result.0 ≡ length text.now }
 {
-    if NEAR < text.len() {
-        let near = &text[..text.floor_char_boundary(NEAR)];
-        if let Some(run) = run_after_sequences(near) {
-            return run;
-        }
+    let bytes = text.as_bytes();
+    let mut start = 0;
+    'marks: while start < bytes.len() && bytes[start] == ESC {
+        start = mark_at(text, start).end;
     }
-    whole_first_run(text)
+    (start, start + near_run_len(&text[start..]))
 }
 
-/// The start and the end of the first run, if only whole sequences precede it. It is the first run
-/// whatever follows the text.
-fn run_after_sequences(text: &str) -> Option<(usize, usize)>
-    ensures { IfSome result (λ (start, end). IsRun text.now start end × (start < end)
-        × ((rest : List ℕ) → start ≡ offset_of (text.now ++ rest) 0)) }
+/// How many bytes of plain text come first, at most `NEAR`.
+#[inline(always)]
+fn near_run_len(text: &str) -> usize
+    ensures boundary { IsCharBoundary text.now result }
+    ensures bytes { IsTrue (list_all is_plain_byte (take result text.now)) }
+    ensures none { result ≡ 0 → (text.now ≡ []) ⊎ (slice_index text.now 0 ≡ escape) }
 {
-    for item in Scanner::new(text) {
-        if item.kind == Kind::Text {
-            return Some((item.start, item.end));
-        }
-        if item.kind == Kind::Lone {
-            return None;
-        }
-    }
-    None
-}
-
-/// The start and the end of the first run of a text. Both are its length if it has no run.
-fn whole_first_run(text: &str) -> (usize, usize)
-    ensures start { result.0 ≡ offset_of text.now 0 }
-    ensures run { IsRun text.now result.0 result.1 }
-    ensures none { result.0 ≡ result.1 → result.0 ≡ length text.now }
-{
-    for item in Scanner::new(text) {
-        if item.kind == Kind::Text {
-            return (item.start, item.end);
-        }
-    }
-    (text.len(), text.len())
+    let near = &text[..text.ceil_char_boundary(NEAR)];
+    memchr(ESC, near.as_bytes()).unwrap_or(near.len())
 }

@@ -14,7 +14,7 @@ use Rattle.ansi_clusters.specs.Walks.{IsCountedTo, walk_at_run}
 use Rattle.ansi_clusters.proofs.ColumnLemmas.{counted-begin}
 use Rattle.ansi_clusters.proofs.PrintableLemmas.{counted-clusters}
 use Rattle.ansi_cells.proofs.PlainTextLemmas.{ArePlainSoFar, plain-begin, plain-run, plain-mark, plain-within, plain-columns, run-utf8, walk-plain, counted-ending, counted-run, counted-first}
-use Rattle.ansi_cells.proofs.widths.plain_runs.Goals.{else-position-gt0-via-then-position-gt0+else-not-ends_ascii, else-position-gt0-via-else-position-gt0}
+use Rattle.ansi_cells.proofs.widths.plain_runs.Goals.{else-len-eq0-via-then-len-eq0+then-position-gt0+else-not-ends_ascii, else-len-eq0-via-then-len-eq0+else-position-gt0, else-len-eq0-via-else-len-eq0}
 use Rattle.ansi_cells.proofs.widths.plain_runs.Goals as goal
 
 pub loop-step-init : goal.loop-step-init
@@ -83,21 +83,22 @@ past_plain-more-requires-clause-walk c =
     let inv = c.loop-step.invariant in
     (Given, walk-plain _ c.utf8.text inv.so_far c.in-Some.ensures.steps.gives inv.text (kind_is_text (sym (not-false _ (sym c.if-ne.ensures)))) c.at_run-run.ensures Given)
 
-pub returns-then-len-eq0 : goal.returns-then-len-eq0
-returns-then-len-eq0 c =
+pub returns-then-len-step-2 : goal.returns-then-len-step-2
+returns-then-len-step-2 c =
     let inv = c.loop-step.invariant in
     let gives = c.in-Some.ensures.steps.gives in
     let kind = kind_is_text (sym (not-false _ (sym c.if-ne.ensures))) in
-    elim c.else-position-gt0.branch [
-      | else-position-gt0-via-then-position-gt0+else-not-ends_ascii w ↦ counted-ending _ c.utf8.text inv.so_far gives inv.text kind c.at_run-run.ensures (w.ends_ascii.ensures w.if-not-ends_ascii.false)
-      | else-position-gt0-via-else-position-gt0 w ↦ counted-first _ c.utf8.text inv.so_far gives inv.text kind c.at_run-run.ensures (omega (arith, w.if-position-gt0.false)) (omega (arith, w.if-position-gt0.false, plain-within inv.so_far))
+    elim c.else-len-eq0.branch [
+      | else-len-eq0-via-then-len-eq0+then-position-gt0+else-not-ends_ascii w ↦ counted-ending _ c.utf8.text inv.so_far gives inv.text kind c.at_run-run.ensures (w.ends_ascii.ensures w.if-not-ends_ascii.false)
+      | else-len-eq0-via-then-len-eq0+else-position-gt0 w ↦ counted-first _ c.utf8.text inv.so_far gives inv.text kind c.at_run-run.ensures (omega (arith, w.if-position-gt0.false)) (omega (arith, w.if-position-gt0.false, plain-within inv.so_far))
+      | else-len-eq0-via-else-len-eq0 w ↦ counted-run _ c.utf8.text inv.so_far gives inv.text kind c.at_run-run.ensures c.plain_part-len.ensures (omega (arith, w.if-len-eq0.false))
     ]
 
 pub returns-then-len-step : goal.returns-then-len-step
 returns-then-len-step c =
     let inv = c.loop-step.invariant in
     let kind = kind_is_text (sym (not-false _ (sym c.if-ne.ensures))) in
-    let here = counted-run _ c.utf8.text inv.so_far c.in-Some.ensures.steps.gives inv.text kind c.at_run-run.ensures c.plain_part-len.ensures (omega (arith, c.if-len-eq0.false)) in
+    let here = counted-run _ c.utf8.text inv.so_far c.in-Some.ensures.steps.gives inv.text kind c.at_run-run.ensures c.plain_part-len.ensures (omega (arith, c.if-len-step-2.false)) in
     record {
       is_walk = λ view. (c.past_plain-more.ensures view (here.is_walk view)).walk;
       counted = λ view. counted-clusters (c.past_plain-more.ensures view (here.is_walk view)) (here.counted view);

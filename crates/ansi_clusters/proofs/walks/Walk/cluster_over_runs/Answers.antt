@@ -5,7 +5,7 @@ use Rattle.ansi_clusters.specs.Views.{IsTight}
 use Rattle.ansi_clusters.specs.declared.walks.Walk.{Walk}
 use Rattle.ansi_clusters.proofs.TightLemmas.{tight-one}
 use Rattle.ansi_clusters.proofs.WalkLemmas.{walk_boundary}
-use Rattle.ansi_clusters.proofs.walks.Walk.cluster_over.Goals as goal
+use Rattle.ansi_clusters.proofs.walks.Walk.cluster_over_runs.Goals as goal
 
 pub at-requires : goal.at-requires
 at-requires c =
