@@ -5,7 +5,7 @@ use Rattle.std.specs.Iterator.{Yields, Drains, HoldsAlong}
 use Rattle.std.specs.List.{list_all}
 use Rattle.std.specs.declared.borrow.CowStr.{CowStr}
 use Rattle.std.proofs.lemmas.Bool.{and_parts}
-use Rattle.std.proofs.lemmas.List.{length-map, length-drop, map-append}
+use Rattle.std.proofs.lemmas.List.{length-map, length-drop, map-append, map-id}
 use Rattle.std.proofs.lemmas.List.Concat.{flat_map-cons, flat_map-append}
 use Rattle.std.proofs.lemmas.List.Elements.{All-from_recursion, recursion_from_All, All-head, All-tail}
 use Rattle.std.proofs.lemmas.Slice.{drop-append-drop}
@@ -30,6 +30,15 @@ module _ {X : Type 0} (text : X → List ℕ) where
       ap (λ es. next ∷ es)
       (ends-more next xs x ∙ ap (λ k. ends_from next (map text xs) ++ k ∷ [])
       (omega (arith, ap length (flat_map-cons (λ t. t) (text y) (map text xs)), length-append (text y) (joined_texts (map text xs)))))
+
+-- the same of texts
+pub joined_one : (texts : List (List ℕ)) (x : List ℕ) → joined_texts (texts ++ x ∷ []) ≡ joined_texts texts ++ x
+joined_one texts x = ap joined_texts (sym (map-id (texts ++ x ∷ []))) ∙ joined-more (λ t. t) texts x ∙ ap (λ us. joined_texts us ++ x) (map-id texts)
+
+pub ends_one : (texts : List (List ℕ)) (x : List ℕ) → ends_from 0 (texts ++ x ∷ []) ≡ ends_from 0 texts ++ (0 + length (joined_texts texts) + length x) ∷ []
+ends_one texts x =
+    ap (ends_from 0) (sym (map-id (texts ++ x ∷ []))) ∙ ends-more (λ t. t) 0 texts x
+    ∙ ap (λ us. ends_from 0 us ++ (0 + length (joined_texts us) + length x) ∷ []) (map-id texts)
 
 -- one more item follows those that are written
 pub written-more : {T : Type 0} (old now after items more : List T) → now ≡ items ++ drop (length items) old → after ≡ take (length items) now ++ more ++ drop (length items + length more) now

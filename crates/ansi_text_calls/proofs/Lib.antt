@@ -2,7 +2,6 @@ pub mod Utf8Lemmas
 pub mod StepLemmas
 pub mod GivenLemmas
 pub mod ListLemmas
-pub mod CopyLemmas
 pub mod ByteLemmas
 pub mod LinkListLemmas
 pub mod PenLemmas

@@ -1,6 +1,7 @@
 pub mod Answers
 pub mod Styles
 pub mod Lists
+pub mod Parts
 pub mod Steps
 pub mod Walks
 pub mod Safe

@@ -92,12 +92,6 @@ abbrev pub AreCopiedSoFar : List (List ℕ) → ℕ × ℕ → List ℕ → List
 AreCopiedSoFar texts answer old new old_ends new_ends =
     AreCopied texts answer old new old_ends new_ends × (length new ≡ length old) × (length new_ends ≡ length old_ends)
 
--- one text more is copied after those so far
-abbrev pub PutsText : List ℕ → ℕ × ℕ → ℕ × ℕ → List ℕ → List ℕ → List ℕ → List ℕ → Type 0
-PutsText text copied more old new old_ends new_ends =
-    (texts : List (List ℕ)) (first : List ℕ) (first_ends : List ℕ) → AreCopiedSoFar texts copied first old first_ends old_ends
-    → AreCopiedSoFar (texts ++ text ∷ []) more first new first_ends new_ends
-
 -- a call writes all texts, or runs out of memory if it allocates
 abbrev pub GivesAll : {T : Type 0} → Bool → List ℕ → List T → ListAnswer → List ℕ → List ℕ → List T → List T → Type 0
 GivesAll takes_memory bytes entries answer old new old_entries new_entries =

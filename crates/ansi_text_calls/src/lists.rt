@@ -18,8 +18,7 @@ ghost use Rattle.ansi_text_calls.specs.Lists.{none, ends_from, AreEntries};
 ghost use Rattle.ansi_text_calls.specs.Lists.{IsBlockEntry, styled_text, IsStyledBlockEntry};
 ghost use Rattle.ansi_text_calls.specs.Lists.{whole_block, given_bytes, AreCopied};
 ghost use Rattle.ansi_text_calls.specs.Lists.{AreWritten, AreCopiedSoFar, Copies, Fit};
-ghost use Rattle.ansi_text_calls.specs.Lists.{IsCountWithoutRoom, GivesAll, HaveFailed, PutsText};
-ghost use Rattle.ansi_style.specs.declared.styles.TheConstants.{SHORT};
+ghost use Rattle.ansi_text_calls.specs.Lists.{IsCountWithoutRoom, GivesAll, HaveFailed};
 ghost use Rattle.ansi_text_calls.specs.Calls.{Splits, ListsAs, ListsBlocks, ListsStyledBlocks};
 
 use crate::answers::{NOT_UTF8, OK, OUT_OF_MEMORY, TOO_SMALL};
@@ -162,7 +161,10 @@ impl Listed for StyledBlockEntry {
 }
 
 /// Appends the sequences that reset a style.
-fn push_close<A: Allocator>(texts: &mut String<A>, style: &Style) -> Result<(), AllocError>
+pub(crate) fn push_close<A: Allocator>(
+    texts: &mut String<A>,
+    style: &Style,
+) -> Result<(), AllocError>
     ensures { OnOk result (string_bytes texts.new
         ≡ string_bytes texts.old ++ close_if_any (rendition_of style.now)) }
 {
@@ -364,7 +366,7 @@ pub fn copy_texts<'t, A: Allocator, I: Iterator<Item = Result<CowStr<'t, A>, All
 /// Writes one text more after those that are copied, and where it ends, as far as there is room.
 /// Returns their number and their total length.
 #[inline(always)]
-pub(crate) fn put_text(
+fn put_text(
     text: &[u8],
     copied: (usize, usize),
     buffer: &mut [u8],
@@ -380,35 +382,6 @@ pub(crate) fn put_text(
     let len = put(text, len, buffer);
     let count = put(&[len], count, ends);
     (count, len)
-}
-
-/// Copies one text more, between two short ones, after those that are copied, and where it ends, if
-/// there is room for that. Returns their number and their total length. `None` means that there is no
-/// room for the bytes.
-pub(crate) fn put_between(
-    start: &str,
-    text: &str,
-    close: &str,
-    copied: (usize, usize),
-    buffer: &mut [u8],
-    ends: &mut [usize],
-) -> Option<(usize, usize)>
-    requires start { length start.now ≤ SHORT }
-    requires close { length close.now ≤ SHORT }
-    requires count { copied.0 ≤ length ends.old }
-    requires len { copied.1 ≤ length buffer.old }
-    ensures { IfSome result (λ more. PutsText (start.now ++ text.now ++ close.now) copied more
-        buffer.old buffer.new ends.old ends.new) }
-{
-    let (count, len) = copied;
-    if buffer.len() - len < start.len() + text.len() + close.len() {
-        return None;
-    }
-    let after_start = put(start.as_bytes(), len, buffer);
-    let after_text = put(text.as_bytes(), after_start, buffer);
-    let end = put(close.as_bytes(), after_text, buffer);
-    let count = put(&[end], count, ends);
-    Some((count, end))
 }
 
 /// Copies items to a place in a slice, if there is room for them. Returns the place after them.
@@ -491,8 +464,22 @@ fn join_texts<P: PushNext + Drop, A: Allocator + Copy>(
     ensures ends { IfOk result (λ joined. joined.1.items
         ≡ ends_from 0 (map (λ p. p.bytes) (P.left given))) }
 {
-    let mut texts = String::with_capacity(alloc, room)?;
-    let mut ends = Vec::with_capacity(alloc, FEW)?;
+    let texts = String::with_capacity(alloc, room)?;
+    let ends = Vec::with_capacity(alloc, FEW)?;
+    push_texts(texts, ends, given)
+}
+
+/// Appends the texts that are left to others, and where each ends.
+pub(crate) fn push_texts<P: PushNext + Drop, A: Allocator + Copy>(
+    mut texts: String<A>,
+    mut ends: Vec<usize, A>,
+    given: P,
+) -> Result<(String<A>, Vec<usize, A>), AllocError>
+    ensures texts { IfOk result (λ joined. string_bytes joined.0 ≡ string_bytes texts
+        ++ flat_map (λ t. t) (map (λ p. p.bytes) (P.left given))) }
+    ensures ends { IfOk result (λ joined. joined.1.items ≡ ends.items
+        ++ ends_from (length (string_bytes texts)) (map (λ p. p.bytes) (P.left given))) }
+{
     let mut left = given;
     'texts: while let Some(pushed) = left.push_next(&mut texts) {
         pushed?;
@@ -522,7 +509,7 @@ fn join_blocks<T: Listed, A: Allocator + Copy>(
 }
 
 /// Writes concatenated texts and their entries, or reports out of memory.
-fn write_joined<T: Copy, A: Allocator>(
+pub(crate) fn write_joined<T: Copy, A: Allocator>(
     joined: Result<(String<A>, Vec<T, A>), AllocError>,
     buffer: &mut [u8],
     entries: &mut [T],

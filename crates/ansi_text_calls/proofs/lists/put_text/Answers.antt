@@ -1,8 +1,7 @@
 use Rattle.std.proofs.Common.{◌≡◌, ◌∙◌, ◌≤◌, ◌+◌, ◌∷◌, [], ◌++◌, length, take, drop, sym, ap, ap₂, arith, length-append}
 use Rattle.std.proofs.lemmas.List.{length_push}
 use Rattle.ansi_text_calls.specs.Lists.{ends_from}
-use Rattle.ansi_text_calls.proofs.CopyLemmas.{joined_one, ends_one}
-use Rattle.ansi_text_calls.proofs.GivenLemmas.{joined_texts, written-more}
+use Rattle.ansi_text_calls.proofs.GivenLemmas.{joined_texts, joined_one, ends_one, written-more}
 use Rattle.ansi_text_calls.proofs.ListLemmas.{length-ends_from}
 use Rattle.ansi_text_calls.proofs.lists.put_text.Goals as goal
 
