@@ -1,10 +1,11 @@
 /* Makes the calls of rows of texts and results, and exits with 1 if a result differs.
 
-   Each line of standard input is a row as ../../rows/README.md says, of which the fields on memory are passed over. The rows of
-   LACKING and those with too many fields are counted and passed over too.
+   Each line of standard input is a row as ../../rows/README.md says. The rows of LACKING and those with too many fields are counted
+   and passed over.
 
-   Each call for a text is repeated with a buffer that is one byte too small, with a larger one, and with each allocation
-   refused in turn. With the larger buffer nothing may be written past the result, with the others nothing at all. Of the
+   A call whose row says that it doesn't allocate is granted no allocation, with any buffer, but for those of ALLOCATING. Each call
+   for a text is repeated with a buffer that is one byte too small, with none, with a larger one, and with each allocation refused in
+   turn. With the larger buffer nothing may be written past the result, with the others nothing at all. Of the
    calls for the blocks of a row, each allocation is refused once. */
 #include "ansi_str.h"
 
@@ -34,8 +35,12 @@ void *__real_realloc(void *block, size_t size);
 void *__wrap_malloc(size_t size);
 void *__wrap_realloc(void *block, size_t size);
 
+/* Whether an allocation was refused since the last call that reported out of memory. */
+static int was_refused = 0;
+
 static int is_refused(void) {
     if (granted == 0) {
+        was_refused = 1;
         return 1;
     }
     if (granted > 0) {
@@ -56,7 +61,17 @@ struct text {
 struct row {
     struct text fields[MOST_FIELDS];
     size_t count;
+    /* whether the call allocates: `+`, `-`, or `?` if the row doesn't say */
+    char memory;
 };
+
+/* The calls that may allocate in C where that of a row doesn't: they make a list of the caller's ranges or edits, or join what the row
+   has in pieces. */
+static const char *const ALLOCATING[] = {"restyle", "refused_range", "replace_each", "edit_columns", "blocks", "styled_blocks",
+                                         "block_start", "block_end", "pen_start", "pen_end", "wrap_with"};
+
+/* The most bytes of what sets or closes a style for which a call doesn't allocate, as the header says. */
+enum { SHORT = 32 };
 
 static long line_number = 0;
 
@@ -273,6 +288,53 @@ static ansi_str_answer call(const struct row *r, char *buffer, size_t len) {
     return answer;
 }
 
+/* The text has an ESC or another control. */
+static bool has_control(const struct text *t) {
+    for (size_t i = 0; i < t->len; i++) {
+        if ((unsigned char)t->bytes[i] < ' ') {
+            return true;
+        }
+    }
+    return false;
+}
+
+/* Whether a call that shows a text returns it as it is, and so without an allocation. (The text of a cell is made of a tail with a
+   control, whether it is needed or not.) */
+static int is_kept(const struct row *r) {
+    static const char *const SHOWING[] = {"truncate", "pad", "fit", "truncate_with", "slice"};
+    for (size_t i = 0; i < sizeof SHOWING / sizeof SHOWING[0]; i++) {
+        if (strcmp(r->fields[0].bytes, SHOWING[i]) == 0) {
+            const struct text *result = &r->fields[2], *t = text_of(r);
+            for (size_t k = 4; k < r->count; k++) {
+                if (has_control(&r->fields[k])) {
+                    return 0;
+                }
+            }
+            return status_of(r) == ANSI_STR_OK && result->len == t->len && memcmp(result->bytes, t->bytes, t->len) == 0;
+        }
+    }
+    return 0;
+}
+
+/* Whether the call of a row may allocate. */
+static int may_allocate(const struct row *r) {
+    for (size_t i = 0; i < sizeof ALLOCATING / sizeof ALLOCATING[0]; i++) {
+        if (strcmp(r->fields[0].bytes, ALLOCATING[i]) == 0) {
+            return 1;
+        }
+    }
+    return r->memory != '-' && !is_kept(r);
+}
+
+/* From here on every allocation is granted, or none if the call of a row may not allocate. */
+static void grant(const struct row *r) { granted = may_allocate(r) ? -1 : 0; }
+
+/* After that: the call reports out of memory only if it may allocate. */
+static void expect_granted(const struct row *r, uint32_t status) {
+    granted = -1;
+    expect("no allocation", status != ANSI_STR_OUT_OF_MEMORY || may_allocate(r));
+}
+
 /* A buffer with all bytes GUARD. */
 static char *guarded(size_t len) {
     char *buffer = __real_malloc(len + 1);
@@ -296,6 +358,8 @@ static int is_wanting(uint32_t status, const char *buffer, size_t len) {
         return 0;
     }
     wanting++;
+    expect("an allocation was refused", was_refused);
+    was_refused = 0;
     expect("the buffer with little memory", is_guard(buffer, 0, len + 1));
     return 1;
 }
@@ -303,7 +367,9 @@ static int is_wanting(uint32_t status, const char *buffer, size_t len) {
 /* A call with a buffer of this many bytes returns and writes this text, or fails. */
 static void expect_text(const struct row *r, uint32_t status, const struct text *wanted, size_t room) {
     char *buffer = guarded(room);
+    grant(r);
     ansi_str_answer answer = call(r, buffer, room);
+    expect_granted(r, answer.status);
     if (status == ANSI_STR_OK && room < wanted->len) {
         status = ANSI_STR_TOO_SMALL;
     }
@@ -402,6 +468,10 @@ static long expect_one(const struct row *r, const char *name, uint32_t status, s
     static struct row one;
     static char digits[32];
     one = *r;
+    /* (a row of styled blocks has what is written of each, which joins a block in pieces) */
+    if (strcmp(r->fields[0].bytes, "styled_blocks") == 0) {
+        one.memory = '?';
+    }
     snprintf(digits, sizeof digits, "%zu", index);
     size_t at = strcmp(name, "part") == 0 ? 5 : 4;
     one.fields[0].bytes = (char *)(uintptr_t)name;
@@ -413,8 +483,10 @@ static long expect_one(const struct row *r, const char *name, uint32_t status, s
 
 static const struct text EMPTY = {(char *)(uintptr_t)"", 0};
 
-/* The next part of a walk is this text. If memory or room is too little, the walk is unchanged. */
-static void expect_next_part(ansi_str_part_walk *walk, const struct text *wanted) {
+/* The next part of a walk is this text. It allocates only if a sequence is inside the match before the part, so not after one of a
+   single byte, or if what is written around the part is long, so not for a short part. If memory or room is too little, the walk is
+   unchanged. */
+static void expect_next_part(ansi_str_part_walk *walk, const struct text *pattern, const struct text *wanted) {
     char *buffer = guarded(wanted->len);
     ansi_str_next_part part;
     ansi_str_answer answer;
@@ -424,14 +496,20 @@ static void expect_next_part(ansi_str_part_walk *walk, const struct text *wanted
         granted = requests++;
         answer = ansi_str_parts_next(walk, &part, buffer, wanted->len);
     } while (is_wanting(answer.status, buffer, wanted->len));
+    int is_simple = pattern->len <= 1 && wanted->len <= SHORT;
+    expect("no allocation for a part", requests == 1 || !is_simple);
     size_t len = answer.len;
     expect("the next part", answer.status == ANSI_STR_OK && len + part.text_len == wanted->len && (len == 0 || part.text_len == 0));
     expect("its text", memcmp(buffer, wanted->bytes, len) == 0 && memcmp(part.text, wanted->bytes, part.text_len) == 0);
     expect("nothing more is written", is_guard(buffer, len, wanted->len + 1));
     if (len > 0) {
         memset(buffer, GUARD, wanted->len);
+        granted = is_simple ? 0 : -1;
         answer = ansi_str_parts_next(&copy, &part, buffer, len - 1);
         expect("too small for a part", answer.status == ANSI_STR_TOO_SMALL && answer.len == len && part.text_len == 0);
+        answer = ansi_str_parts_next(&copy, &part, NULL, 0);
+        granted = -1;
+        expect("no room for a part", answer.status == ANSI_STR_TOO_SMALL && answer.len == len && part.text_len == 0);
         expect("nothing is written", is_guard(buffer, 0, wanted->len + 1));
         answer = ansi_str_parts_next(&copy, &part, buffer, len);
         expect("the part again", answer.status == ANSI_STR_OK && answer.len == len && part.text_len == 0);
@@ -598,7 +676,9 @@ static void expect_too_small(const struct row *r, size_t room, size_t most, size
     size_t *ends = __real_malloc((count + 1) * sizeof *ends);
     char *buffer = guarded(len);
     memset(ends, 0, (count + 1) * sizeof *ends);
+    grant(r);
     ansi_str_answers answer = list(r, buffer, room, ends, most);
+    expect_granted(r, answer.status);
     expect("too small", answer.status == ANSI_STR_TOO_SMALL && answer.count == count && answer.len == len);
     expect("nothing is written", is_guard(buffer, 0, len + 1));
     for (size_t i = 0; i <= count; i++) {
@@ -626,6 +706,7 @@ static void expect_list(const struct row *r) {
         granted = requests++;
         answer = list(r, buffer, len, ends, count);
     } while (is_wanting(answer.status, buffer, len));
+    expect("no allocation", requests == 1 || may_allocate(r));
     expect("memory for a text with ESC, or that a wrap changes", requests == 1 || memchr(text_of(r)->bytes, '\x1b', text_of(r)->len) != NULL ||
         has_indents || (strcmp(r->fields[0].bytes, "wrap") == 0 && !is_printable(text_of(r))));
     expect("status", answer.status == status_of(r));
@@ -656,7 +737,7 @@ static void expect_parts(const struct row *r) {
         expect_one(r, "part", ANSI_STR_NO, count, &EMPTY, 0);
     }
     for (size_t i = 0; i < count; i++) {
-        expect_next_part(&walk, &parts[i]);
+        expect_next_part(&walk, pattern, &parts[i]);
         expect_one(r, "part", status, i, &parts[i], 0);
     }
     for (int i = 0; i < 2; i++) {
@@ -698,16 +779,20 @@ static int is_same_style(const ansi_str_style *a, const ansi_str_style *b) {
     return memcmp(a, b, offsetof(ansi_str_style, font)) == 0 && a->font.is_set == b->font.is_set && a->font.number == b->font.number;
 }
 
-/* A call of a style writes these sequences. */
+/* A call of a style writes these sequences, and allocates only if they are long. */
 static void expect_sequences(ansi_str_answer (*call_of)(const ansi_str_style *, char *, size_t),
                              const ansi_str_style *style, const struct text *wanted) {
     char *buffer = guarded(wanted->len);
-    ansi_str_answer answer;
-    long requests = 0;
+    long requests = wanted->len > SHORT ? -1 : 0;
+    granted = requests;
+    ansi_str_answer answer = call_of(style, NULL, 0);
+    expect("their length", answer.status == (wanted->len > 0 ? ANSI_STR_TOO_SMALL : ANSI_STR_OK) && answer.len == wanted->len);
+    requests = 0;
     do {
         granted = requests++;
         answer = call_of(style, buffer, wanted->len);
     } while (is_wanting(answer.status, buffer, wanted->len));
+    expect("no allocation for short sequences", requests == 1 || wanted->len > SHORT);
     expect("sequences of a style", answer.status == ANSI_STR_OK && answer.len == wanted->len &&
                                        memcmp(buffer, wanted->bytes, wanted->len) == 0 && is_guard(buffer, wanted->len, wanted->len + 1));
     free(buffer);
@@ -776,6 +861,7 @@ static void expect_blocks(const struct row *r) {
         granted = requests++;
         answer = ansi_str_blocks(TEXT(t), buffer, len, blocks, count);
     } while (is_wanting(answer.status, buffer, len));
+    expect("no allocation", requests == 1 || memchr(t->bytes, '\x1b', t->len) != NULL);
     expect("status", answer.status == status);
     expect("how many and how long", answer.count == count && answer.len == len && buffer[len] == GUARD);
     size_t start = 0;
@@ -832,6 +918,7 @@ static void expect_styled_blocks(const struct row *r) {
         granted = requests++;
         answer = ansi_str_styled_blocks(TEXT(t), buffer, len, blocks, count);
     } while (is_wanting(answer.status, buffer, len));
+    expect("no allocation", requests == 1 || memchr(t->bytes, '\x1b', t->len) != NULL);
     expect("status", answer.status == status);
     expect("how many and how long", answer.count == count && answer.len == len && buffer[len] == GUARD);
     size_t start = 0;
@@ -1042,6 +1129,7 @@ static int read_row(char *line, struct row *r) {
         lacking++;
     }
     r->count = 0;
+    r->memory = *memory;
     for (; lacking + 1 == LACKING_COUNT && field != NULL && r->count < MOST_FIELDS; field = strtok(NULL, " \n")) {
         r->fields[r->count++] = field_of(field);
     }
