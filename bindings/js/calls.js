@@ -1,7 +1,7 @@
 // Text with ANSI control sequences, taken as if the sequences weren't there. index.d.ts says what each call does.
 import {
-  ATTRIBUTES, COLORS, END as BYTES_OF_END, LINK, RANGE, blocks as blocksOf, bytesOf, called, iterBlocks as blockWalk, iterLines as lineWalk,
-  iterParts, linked, listed, noRoom, ranged, rangesAsBytes, roomForColumns, roomForEntries, roomForList, roomForOne, told, written,
+  ATTRIBUTES, COLORS, RANGE, blocks as blocksOf, bytesOf, called, calledInSteps, filling, high, isBytes, iterBlocks as blockWalk,
+  iterLines as lineWalk, iterParts, listing, listingLinks, openAfter, ranging, rangesAsBytes, telling, writing,
 } from './memory.js';
 
 export { OutOfMemoryError } from './memory.js';
@@ -13,209 +13,128 @@ const KINDS = { cut: 0, left: 1, right: 2, part: 3, prefix: 4, suffix: 5, trim: 
 /** The largest number that is passed on: past the end of any text. */
 const END = Number.MAX_SAFE_INTEGER;
 
-/** Whether an export that takes a text and a pattern returns that it is so. */
-function isSo(name, text, pattern) {
-  return called([text, pattern], [], noRoom,
-    (exports, frame) => exports[name](frame.head[0], ...frame.texts[0], ...frame.texts[1]), told) !== null;
-}
+// What each export takes: pointers and lengths, and other numbers of 64 bits, as their low and their high half.
+const STRIP = writing((x, f) => x.ansi_str_raw_strip(f.answer, 0, f.block, 0, f.text, 0, f.length, 0, f.buffer, 0, f.room, 0));
+const FIND = telling((x, f) => x.ansi_str_raw_find(f.answer, 0, f.text, 0, f.length, 0, f.secondText, 0, f.secondLength, 0));
+const FIND_FROM = telling((x, f) => (
+  x.ansi_str_raw_find_from(f.answer, 0, f.text, 0, f.length, 0, f.first, high(f.first), f.secondText, 0, f.secondLength, 0)));
+const MATCHES = ranging((x, f) => (
+  x.ansi_str_raw_matches(f.answer, 0, f.text, 0, f.length, 0, f.secondText, 0, f.secondLength, 0, f.entries, 0, f.count, 0)));
+// (the ranges are the second text, the codes the third)
+const RESTYLE = writing((x, f) => x.ansi_str_raw_restyle(f.answer, 0, f.block, 0, f.text, 0, f.length, 0, f.secondText, 0,
+  f.secondLength / RANGE, 0, f.thirdText, 0, f.thirdLength, 0, f.buffer, 0, f.room, 0));
+const REFUSED_RANGE = telling((x, f) => (
+  x.ansi_str_raw_refused_range(f.answer, 0, f.block, 0, f.text, 0, f.length, 0, f.secondText, 0, f.secondLength / RANGE, 0)));
+const MARK = writing((x, f) => x.ansi_str_raw_mark(f.answer, 0, f.block, 0, f.text, 0, f.length, 0, f.secondText, 0, f.secondLength, 0,
+  f.thirdText, 0, f.thirdLength, 0, f.buffer, 0, f.room, 0));
+const REMOVE = writing((x, f) => x.ansi_str_raw_remove(f.answer, 0, f.block, 0, f.text, 0, f.length, 0, f.first, high(f.first),
+  f.last, high(f.last), f.buffer, 0, f.room, 0));
+const REPLACE = writing((x, f) => x.ansi_str_raw_replace(f.answer, 0, f.block, 0, f.text, 0, f.length, 0, f.first, high(f.first),
+  f.last, high(f.last), f.secondText, 0, f.secondLength, 0, f.buffer, 0, f.room, 0));
+const INSERT = writing((x, f) => x.ansi_str_raw_insert(f.answer, 0, f.block, 0, f.text, 0, f.length, 0, f.first, high(f.first),
+  f.secondText, 0, f.secondLength, 0, f.buffer, 0, f.room, 0));
+const REPLACE_ALL = writing((x, f) => x.ansi_str_raw_replace_all(f.answer, 0, f.block, 0, f.text, 0, f.length, 0, f.secondText, 0,
+  f.secondLength, 0, f.thirdText, 0, f.thirdLength, 0, f.buffer, 0, f.room, 0));
+// (the steps are the second text, and their number the first number)
+const REPLACE_EACH = writing((x, f) => (
+  x.ansi_str_raw_replace_each(f.answer, 0, f.block, 0, f.text, 0, f.length, 0, f.secondText, 0, f.first, 0, f.buffer, 0, f.room, 0)));
+const EDIT = writing((x, f) => (
+  x.ansi_str_raw_edit(f.answer, 0, f.block, 0, f.text, 0, f.length, 0, f.secondText, 0, f.first, 0, f.buffer, 0, f.room, 0)));
+const EDIT_COLUMNS = writing((x, f) => (
+  x.ansi_str_raw_edit_columns(f.answer, 0, f.block, 0, f.text, 0, f.length, 0, f.secondText, 0, f.first, 0, f.buffer, 0, f.room, 0)));
+const LINK = writing((x, f) => x.ansi_str_raw_link(f.answer, 0, f.block, 0, f.text, 0, f.length, 0, f.first, high(f.first),
+  f.last, high(f.last), f.secondText, 0, f.secondLength, 0, f.buffer, 0, f.room, 0));
+const UNLINK = writing((x, f) => x.ansi_str_raw_unlink(f.answer, 0, f.block, 0, f.text, 0, f.length, 0, f.buffer, 0, f.room, 0));
+const PEN_START = writing((x, f) => x.ansi_str_raw_pen_start(f.answer, 0, f.block, 0, f.text, 0, f.length, 0, f.buffer, 0, f.room, 0));
+const PEN_END = writing((x, f) => x.ansi_str_raw_pen_end(f.answer, 0, f.block, 0, f.text, 0, f.length, 0, f.buffer, 0, f.room, 0));
+const LINKS = listingLinks((x, f) => (
+  x.ansi_str_raw_links(f.answer, 0, f.text, 0, f.length, 0, f.buffer, 0, f.room, 0, f.entries, 0, f.count, 0)));
+const STARTS_WITH = telling((x, f) => x.ansi_str_raw_starts_with(f.answer, 0, f.text, 0, f.length, 0, f.secondText, 0, f.secondLength, 0));
+const ENDS_WITH = telling((x, f) => x.ansi_str_raw_ends_with(f.answer, 0, f.text, 0, f.length, 0, f.secondText, 0, f.secondLength, 0));
+const IS_WHOLE = telling((x, f) => x.ansi_str_raw_is_whole(f.answer, 0, f.text, 0, f.length, 0));
+const SPLIT = listing((x, f) => x.ansi_str_raw_split(f.answer, 0, f.block, 0, f.text, 0, f.length, 0, f.secondText, 0, f.secondLength, 0,
+  f.buffer, 0, f.room, 0, f.entries, 0, f.count, 0));
+const WIDTH = telling((x, f) => x.ansi_str_raw_width(f.answer, 0, f.text, 0, f.length, 0));
+const FITTING = telling((x, f) => x.ansi_str_raw_fitting(f.answer, 0, f.text, 0, f.length, 0, f.first, high(f.first)));
+const COLUMN_OF = telling((x, f) => x.ansi_str_raw_column_of(f.answer, 0, f.text, 0, f.length, 0, f.first, high(f.first)));
+const TRUNCATE = writing((x, f) => x.ansi_str_raw_truncate_with(f.answer, 0, f.block, 0, f.text, 0, f.length, 0, f.first, high(f.first),
+  f.secondText, 0, f.secondLength, 0, f.word, f.buffer, 0, f.room, 0));
+const FIT = filling((x, f) => x.ansi_str_raw_fit(f.answer, 0, f.block, 0, f.text, 0, f.length, 0, f.first, high(f.first), f.word,
+  f.secondText, 0, f.secondLength, 0, f.buffer, 0, f.room, 0));
+const PAD = filling((x, f) => (
+  x.ansi_str_raw_pad(f.answer, 0, f.block, 0, f.text, 0, f.length, 0, f.first, high(f.first), f.word, f.buffer, 0, f.room, 0)));
+const SLICE = writing((x, f) => x.ansi_str_raw_slice(f.answer, 0, f.block, 0, f.text, 0, f.length, 0, f.first, high(f.first),
+  f.last, high(f.last), f.buffer, 0, f.room, 0));
+const EXPAND_TABS = writing((x, f) => (
+  x.ansi_str_raw_expand_tabs(f.answer, 0, f.block, 0, f.text, 0, f.length, 0, f.first, high(f.first), f.buffer, 0, f.room, 0)));
+const WRAP = listing((x, f) => x.ansi_str_raw_wrap(f.answer, 0, f.block, 0, f.text, 0, f.length, 0, f.first, high(f.first),
+  f.buffer, 0, f.room, 0, f.entries, 0, f.count, 0));
+const WRAP_WITH = listing((x, f) => x.ansi_str_raw_wrap_with(f.answer, 0, f.block, 0, f.text, 0, f.length, 0, f.first, high(f.first),
+  f.secondText, 0, f.secondLength, 0, f.thirdText, 0, f.thirdLength, 0, f.buffer, 0, f.room, 0, f.entries, 0, f.count, 0));
+const LINES = ranging((x, f) => (
+  x.ansi_str_raw_lines(f.answer, 0, f.text, 0, f.length, 0, f.first, high(f.first), f.entries, 0, f.count, 0)));
+const LINK_AT = writing((x, f) => (
+  x.ansi_str_raw_link_at(f.answer, 0, f.text, 0, f.length, 0, f.first, high(f.first), f.buffer, 0, f.room, 0)));
+// (the word shows what isn't allowed, and the first number keeps links)
+const SANITIZE = writing((x, f) => (
+  x.ansi_str_raw_sanitize(f.answer, 0, f.block, 0, f.text, 0, f.length, 0, f.word, f.first, f.buffer, 0, f.room, 0)));
+const SANITIZE_BYTES = writing((x, f) => (
+  x.ansi_str_raw_sanitize_bytes(f.answer, 0, f.block, 0, f.text, 0, f.length, 0, f.word, f.first, f.buffer, 0, f.room, 0)));
+const IS_SAFE = telling((x, f) => x.ansi_str_raw_is_safe(f.answer, 0, f.text, 0, f.length, 0, f.first));
 
-/** The text that an export makes by all steps, or null if one is refused. */
-function stepped(name, text, steps) {
-  const texts = [text, ...steps.map((step) => step.pattern)];
-  const words = steps.map(({ kind, place = 0, first, second }) => [BigInt(kind) + (BigInt(place) << 32n), first, second]);
-  return called(texts, words, roomForOne,
-    (exports, frame) => exports[name](...frame.head, ...frame.texts[0], BigInt(frame.steps), BigInt(steps.length), ...frame.out), written);
-}
+/** The text that is made of another by steps, or null if one is refused. */
+const stepped = (call, text, steps) => calledInSteps(call, text,
+  steps.map(({ kind, place = 0, first, second, pattern }) => ({ words: [kind + place * 2 ** 32, first, second], text: pattern })));
 
-/** The exports of the module: what each takes, the room for its result, and what is read of it. Positions are bytes. */
+/** The exports of the module, on texts and numbers. Positions are bytes of the plain text, and null is a refusal or nothing. */
 const raw = {
-  strip(text) {
-    return called([text], [], roomForOne, (exports, frame) => exports.ansi_str_raw_strip(...frame.head, ...frame.texts[0], ...frame.out), written);
-  },
-
-  /** The first match in bytes of the plain text, or null. */
-  find(text, pattern) {
-    return called([text, pattern], [], noRoom, (exports, frame) => exports.ansi_str_raw_find(frame.head[0], ...frame.texts[0], ...frame.texts[1]), told);
-  },
-
-  /** The same from a position in bytes on. */
-  findFrom(text, position, pattern) {
-    return called([text, pattern], [], noRoom,
-      (exports, frame) => exports.ansi_str_raw_find_from(frame.head[0], ...frame.texts[0], BigInt(position), ...frame.texts[1]), told);
-  },
-
-  /** Where each match begins and ends, in bytes of the plain text: the beginning and the end of the first, then those of the next. */
-  matches(text, pattern) {
-    return called([text, pattern], [], roomForEntries(text, RANGE),
-      (exports, frame) => exports.ansi_str_raw_matches(frame.head[0], ...frame.texts[0], ...frame.texts[1], ...frame.list), ranged);
-  },
-
-  /** The text with codes applied in ranges, or null if one of them is refused. The ranges are positions in bytes, as above. */
-  restyle(text, positions, codes) {
-    return called([text, codes, rangesAsBytes(positions)], [], roomForOne, (exports, frame) => {
-      const [ranges, bytes] = frame.texts[2];
-      return exports.ansi_str_raw_restyle(...frame.head, ...frame.texts[0], ranges, bytes / BigInt(RANGE), ...frame.texts[1], ...frame.out);
-    }, written);
-  },
-
-  /** The index of the first range that `restyle` and `replaceEach` refuse, or null if they refuse none. */
-  refusedRange(text, positions) {
-    return called([text, rangesAsBytes(positions)], [], noRoom, (exports, frame) => {
-      const [ranges, bytes] = frame.texts[1];
-      return exports.ansi_str_raw_refused_range(...frame.head, ...frame.texts[0], ranges, bytes / BigInt(RANGE));
-    }, told);
-  },
-
-  mark(text, pattern, codes) {
-    return called([text, pattern, codes], [], roomForOne,
-      (exports, frame) => exports.ansi_str_raw_mark(...frame.head, ...frame.texts[0], ...frame.texts[1], ...frame.texts[2], ...frame.out), written);
-  },
-
-  /** The text without a range in bytes, or null if that is refused. */
-  remove(text, start, end) {
-    return called([text], [], roomForOne,
-      (exports, frame) => exports.ansi_str_raw_remove(...frame.head, ...frame.texts[0], BigInt(start), BigInt(end), ...frame.out), written);
-  },
-
-  /** The text with another text in place of a range in bytes, or null if that is refused. */
-  replace(text, start, end, replacement) {
-    return called([text, replacement], [], roomForOne, (exports, frame) => exports.ansi_str_raw_replace(
-      ...frame.head, ...frame.texts[0], BigInt(start), BigInt(end), ...frame.texts[1], ...frame.out), written);
-  },
-
-  insert(text, position, added) {
-    return called([text, added], [], roomForOne,
-      (exports, frame) => exports.ansi_str_raw_insert(...frame.head, ...frame.texts[0], BigInt(position), ...frame.texts[1], ...frame.out), written);
-  },
-
-  replaceAll(text, pattern, replacement) {
-    return called([text, pattern, replacement], [], roomForOne, (exports, frame) => exports.ansi_str_raw_replace_all(
-      ...frame.head, ...frame.texts[0], ...frame.texts[1], ...frame.texts[2], ...frame.out), written);
-  },
-
-  /** The text with a text of its own in place of each range in bytes, or null if the ranges are refused. */
-  replaceEach(text, ranges, replacements) {
-    return called([text, ...replacements], ranges, roomForOne, (exports, frame) => exports.ansi_str_raw_replace_each(
-      ...frame.head, ...frame.texts[0], BigInt(frame.steps), BigInt(ranges.length), ...frame.out), written);
-  },
-
-  link(text, start, end, address) {
-    return called([text, address], [], roomForOne, (exports, frame) => exports.ansi_str_raw_link(
-      ...frame.head, ...frame.texts[0], BigInt(start), BigInt(end), ...frame.texts[1], ...frame.out), written);
-  },
-
-  unlink(text) {
-    return called([text], [], roomForOne, (exports, frame) => exports.ansi_str_raw_unlink(...frame.head, ...frame.texts[0], ...frame.out), written);
-  },
-
+  strip: (text) => called(STRIP, text),
+  find: (text, pattern) => called(FIND, text, pattern),
+  findFrom: (text, position, pattern) => called(FIND_FROM, text, pattern, '', position),
+  /** Where each match begins and ends: the beginning and the end of the first, then those of the next. */
+  matches: (text, pattern) => called(MATCHES, text, pattern),
+  /** The text with codes applied in ranges, which are given in this form. */
+  restyle: (text, positions, codes) => called(RESTYLE, text, rangesAsBytes(positions), codes),
+  /** The index of the first range that `restyle` and `replaceEach` refuse. */
+  refusedRange: (text, positions) => called(REFUSED_RANGE, text, rangesAsBytes(positions)),
+  mark: (text, pattern, codes) => called(MARK, text, pattern, codes),
+  remove: (text, start, end) => called(REMOVE, text, '', '', start, end),
+  replace: (text, start, end, replacement) => called(REPLACE, text, replacement, '', start, end),
+  insert: (text, position, added) => called(INSERT, text, added, '', position),
+  replaceAll: (text, pattern, replacement) => called(REPLACE_ALL, text, pattern, replacement),
+  /** The text with a text of its own in place of each range. */
+  replaceEach: (text, ranges, replacements) => calledInSteps(REPLACE_EACH, text,
+    ranges.map((range, index) => ({ words: range, text: replacements[index] }))),
+  link: (text, start, end, address) => called(LINK, text, address, '', start, end),
+  unlink: (text) => called(UNLINK, text),
   /** What opens again what is open at the end of the text, and what closes it. */
-  penStart(text) {
-    return called([text], [], roomForOne, (exports, frame) => exports.ansi_str_raw_pen_start(...frame.head, ...frame.texts[0], ...frame.out), written);
-  },
-
-  penEnd(text) {
-    return called([text], [], roomForOne, (exports, frame) => exports.ansi_str_raw_pen_end(...frame.head, ...frame.texts[0], ...frame.out), written);
-  },
-
-  /** The links, whose ranges are in bytes. */
-  links(text) {
-    return called([text], [], roomForList(text, LINK),
-      (exports, frame) => exports.ansi_str_raw_links(frame.head[0], ...frame.texts[0], ...frame.out, ...frame.list), linked);
-  },
-
-  startsWith: (text, pattern) => isSo('ansi_str_raw_starts_with', text, pattern),
-
-  endsWith: (text, pattern) => isSo('ansi_str_raw_ends_with', text, pattern),
-
-  isWhole(text) {
-    return called([text], [], noRoom, (exports, frame) => exports.ansi_str_raw_is_whole(frame.head[0], ...frame.texts[0]), told) !== null;
-  },
-
-  edit: (text, steps) => stepped('ansi_str_raw_edit', text, steps),
-
-  editColumns: (text, steps) => stepped('ansi_str_raw_edit_columns', text, steps),
-
-  split(text, pattern) {
-    return called([text, pattern], [], roomForList(text, BYTES_OF_END),
-      (exports, frame) => exports.ansi_str_raw_split(...frame.head, ...frame.texts[0], ...frame.texts[1], ...frame.out, ...frame.list), listed);
-  },
-
-  /** The display width of the plain text, in columns. */
-  width(text) {
-    return called([text], [], noRoom, (exports, frame) => exports.ansi_str_raw_width(frame.head[0], ...frame.texts[0]), told);
-  },
-
-  /** The position, in bytes of the plain text, up to which it fits. */
-  fitting(text, width) {
-    return called([text], [], noRoom, (exports, frame) => exports.ansi_str_raw_fitting(frame.head[0], ...frame.texts[0], BigInt(width)), told);
-  },
-
-  /** The columns before a position in bytes of the plain text, or null if it is inside a character. */
-  columnOf(text, position) {
-    return called([text], [], noRoom, (exports, frame) => exports.ansi_str_raw_column_of(frame.head[0], ...frame.texts[0], BigInt(position)), told);
-  },
-
-  truncate(text, width, tail, side) {
-    return called([text, tail], [], roomForOne,
-      (exports, frame) => exports.ansi_str_raw_truncate_with(...frame.head, ...frame.texts[0], BigInt(width), ...frame.texts[1], side, ...frame.out), written);
-  },
-
-  fit(text, width, alignment, tail) {
-    return called([text, tail], [], roomForColumns(width),
-      (exports, frame) => exports.ansi_str_raw_fit(...frame.head, ...frame.texts[0], BigInt(width), alignment, ...frame.texts[1], ...frame.out), written);
-  },
-
-  pad(text, width, alignment) {
-    return called([text], [], roomForColumns(width),
-      (exports, frame) => exports.ansi_str_raw_pad(...frame.head, ...frame.texts[0], BigInt(width), alignment, ...frame.out), written);
-  },
-
-  sliceColumns(text, start, end) {
-    return called([text], [], roomForOne,
-      (exports, frame) => exports.ansi_str_raw_slice(...frame.head, ...frame.texts[0], BigInt(start), BigInt(end), ...frame.out), written);
-  },
-
-  expandTabs(text, stop) {
-    return called([text], [], roomForOne,
-      (exports, frame) => exports.ansi_str_raw_expand_tabs(...frame.head, ...frame.texts[0], BigInt(stop), ...frame.out), written);
-  },
-
-  wrap(text, width) {
-    return called([text], [], roomForList(text, BYTES_OF_END),
-      (exports, frame) => exports.ansi_str_raw_wrap(...frame.head, ...frame.texts[0], BigInt(width), ...frame.out, ...frame.list), listed);
-  },
-
-  wrapWith(text, width, first, later) {
-    return called([text, first, later], [], roomForList(text, BYTES_OF_END), (exports, frame) => exports.ansi_str_raw_wrap_with(
-      ...frame.head, ...frame.texts[0], BigInt(width), ...frame.texts[1], ...frame.texts[2], ...frame.out, ...frame.list,
-    ), listed);
-  },
-
-  /** Where each line begins and ends, in bytes of the plain text: the beginning and the end of the first, then those of the next. */
-  lines(text, width) {
-    return called([text], [], roomForEntries(text, RANGE),
-      (exports, frame) => exports.ansi_str_raw_lines(frame.head[0], ...frame.texts[0], BigInt(width), ...frame.list), ranged);
-  },
-
-  /** The address of the link at a position in bytes of the plain text, or null. */
-  linkAt(text, position) {
-    return called([text], [], roomForOne,
-      (exports, frame) => exports.ansi_str_raw_link_at(frame.head[0], ...frame.texts[0], BigInt(position), ...frame.out), written);
-  },
-
-  sanitize(text, rest, links) {
-    return called([text], [], roomForOne,
-      (exports, frame) => exports.ansi_str_raw_sanitize(...frame.head, ...frame.texts[0], rest, links, ...frame.out), written);
-  },
-
-  sanitizeBytes(bytes, rest, links) {
-    return called([bytes], [], roomForOne,
-      (exports, frame) => exports.ansi_str_raw_sanitize_bytes(...frame.head, ...frame.texts[0], rest, links, ...frame.out), written);
-  },
-
-  isSafe(text, links) {
-    return called([text], [], noRoom, (exports, frame) => exports.ansi_str_raw_is_safe(frame.head[0], ...frame.texts[0], links), told) !== null;
-  },
+  penStart: (text) => called(PEN_START, text),
+  penEnd: (text) => called(PEN_END, text),
+  links: (text) => called(LINKS, text),
+  startsWith: (text, pattern) => called(STARTS_WITH, text, pattern) !== null,
+  endsWith: (text, pattern) => called(ENDS_WITH, text, pattern) !== null,
+  isWhole: (text) => called(IS_WHOLE, text) !== null,
+  edit: (text, steps) => stepped(EDIT, text, steps),
+  editColumns: (text, steps) => stepped(EDIT_COLUMNS, text, steps),
+  split: (text, pattern) => called(SPLIT, text, pattern),
+  /** The display width of the plain text, in columns; the position up to which it fits; the columns before a position. */
+  width: (text) => called(WIDTH, text),
+  fitting: (text, width) => called(FITTING, text, '', '', width),
+  columnOf: (text, position) => called(COLUMN_OF, text, '', '', position),
+  truncate: (text, width, tail, side) => called(TRUNCATE, text, tail, '', width, 0, side),
+  fit: (text, width, alignment, tail) => called(FIT, text, tail, '', width, 0, alignment),
+  pad: (text, width, alignment) => called(PAD, text, '', '', width, 0, alignment),
+  sliceColumns: (text, start, end) => called(SLICE, text, '', '', start, end),
+  expandTabs: (text, stop) => called(EXPAND_TABS, text, '', '', stop),
+  wrap: (text, width) => called(WRAP, text, '', '', width),
+  wrapWith: (text, width, first, later) => called(WRAP_WITH, text, first, later, width),
+  /** Where each line begins and ends, in the form of matches. */
+  lines: (text, width) => called(LINES, text, '', '', width),
+  /** The address of the link at a position. */
+  linkAt: (text, position) => called(LINK_AT, text, '', '', position),
+  sanitize: (text, rest, links) => called(SANITIZE, text, '', '', links, 0, rest),
+  sanitizeBytes: (bytes, rest, links) => called(SANITIZE_BYTES, bytes, '', '', links, 0, rest),
+  isSafe: (text, links) => called(IS_SAFE, text, '', '', links) !== null,
 };
 
 // (Node 18 has no such method)
@@ -366,8 +285,16 @@ export function cut(text, start, end) {
   return placed(text, ['cut', start, end], start, end);
 }
 
+export function left(text, index) {
+  return placed(text, ['left', index], index);
+}
+
+export function right(text, index) {
+  return placed(text, ['right', index], index);
+}
+
 export function splitAt(text, index) {
-  return [placed(text, ['left', index], index), placed(text, ['right', index], index)];
+  return [left(text, index), right(text, index)];
 }
 
 export function trim(text) {
@@ -400,6 +327,12 @@ export function hasAny(text) {
 
 export function isWhole(text) {
   return raw.isWhole(textOf('text', text));
+}
+
+export function isCharBoundary(text, index) {
+  const plain = strip(text);
+  const position = numberOf('index', index);
+  return position <= plain.length && isWellFormed(plain.slice(0, position));
 }
 
 export function floorCharBoundary(text, index) {
@@ -490,6 +423,10 @@ function codesOf(style) {
   return codes.join(';');
 }
 
+export function codes(style) {
+  return codesOf(style);
+}
+
 export function mark(text, pattern, style) {
   return raw.mark(textOf('text', text), textOf('pattern', pattern), codesOf(style));
 }
@@ -508,7 +445,11 @@ function checkRange(plain, start, end) {
 function positionsOf(ranges) {
   const positions = [];
   let before = 0;
-  for (const [first, last] of ranges) {
+  for (const range of ranges) {
+    if (typeof range !== 'object' || range === null) {
+      throw new TypeError(`the ranges must be pairs of a start and an end, such as [[0, 1]], not ${String(range)}`);
+    }
+    const [first, last] = range;
     const [start, end] = [numberOf('start', first), numberOf('end', last)];
     if (start < before) {
       throw new RangeError(`a range begins before the one before it ends: ${start} is below ${before}`);
@@ -530,6 +471,13 @@ function madeInRanges(text, positions, make) {
     checkRange(strip(text), ...pairsOf(positions)[raw.refusedRange(text, places)]);
   }
   return made;
+}
+
+export function refusedRange(text, ranges) {
+  textOf('text', text);
+  const positions = Array.from(ranges, ([start, end]) => [numberOf('start', start), numberOf('end', end)]);
+  const plain = isAscii(text) ? null : raw.strip(text);
+  return raw.refusedRange(text, plain === null ? positions.flat() : positions.flat().map((position) => placeIn(plain, position)));
 }
 
 export function restyle(text, ranges, style) {
@@ -652,13 +600,13 @@ export function blocks(text) {
 }
 
 export function penAfter(text) {
-  const sequences = remove(text, 0, strip(text).length);
-  const [{ style, link }] = blocks(sequences + CELL);
-  return { style, link, start: raw.penStart(text), end: raw.penEnd(text) };
+  const { style, link } = openAfter(textOf('text', text));
+  // (a link is opened as it was written, with its parameters; and what an unknown code set is ended, which is no part of a style alone)
+  return { style, link, start: link === null ? style.start : raw.penStart(text), end: hasAny(text) ? raw.penEnd(text) : '' };
 }
 
 export function styleOf(style) {
-  return blocks(`\x1b[${codesOf(style)}m${CELL}`)[0].style;
+  return openAfter(`\x1b[${codesOf(style)}m`).style;
 }
 
 export function union(first, second) {
@@ -700,9 +648,19 @@ function indexOf(name, word, words) {
   return words.indexOf(word);
 }
 
+/** The options of a call. One that it doesn't know is refused. */
+function optionsOf(options, names) {
+  const unknown = Object.keys(options).find((name) => !names.includes(name));
+  if (unknown !== undefined) {
+    throw new TypeError(`there is no option ${unknown}: they are ${names.join(', ')}`);
+  }
+  return options;
+}
+
 /** The tail, and the side at which a text is truncated. */
 function truncationOf(options = '') {
-  const { tail = '', side = 'end' } = typeof options === 'object' && options !== null ? options : { tail: options };
+  const isText = typeof options !== 'object' || options === null;
+  const { tail = '', side = 'end' } = isText ? { tail: options } : optionsOf(options, ['tail', 'side']);
   return { tail, side };
 }
 
@@ -757,7 +715,8 @@ export function editColumns(text, edits) {
   return raw.editColumns(textOf('text', text), [...edits].map(columnStepOf));
 }
 
-export function wrap(text, width, { firstIndent = '', indent = '' } = {}) {
+export function wrap(text, width, options = {}) {
+  const { firstIndent = '', indent = '' } = optionsOf(options, ['firstIndent', 'indent']);
   textOf('text', text);
   const most = numberOf('width', width);
   const [first, later] = [textOf('first indent', firstIndent), textOf('indent', indent)];
@@ -786,14 +745,13 @@ export function linkAt(text, position) {
   return raw.linkAt(text, isAscii(text) ? place : placeOf(raw.strip(text), place));
 }
 
-// (an array of another realm is no instance of this one's class)
-const isBytes = (value) => ArrayBuffer.isView(value) && value[Symbol.toStringTag] === 'Uint8Array';
-
-export function sanitize(text, { show = false, links = false } = {}) {
+export function sanitize(text, options = {}) {
+  const { show = false, links = false } = optionsOf(options, ['show', 'links']);
   const policy = [show ? 1 : 0, links ? 1 : 0];
   return isBytes(text) ? raw.sanitizeBytes(text, ...policy) : raw.sanitize(textOf('text', text), ...policy);
 }
 
-export function isSafe(text, { links = false } = {}) {
+export function isSafe(text, options = {}) {
+  const { links = false } = optionsOf(options, ['links']);
   return raw.isSafe(textOf('text', text), links ? 1 : 0);
 }

@@ -1,4 +1,4 @@
-// Times strip, cut, sliceColumns, wrap and width and Debian's strip-ansi, slice-ansi, wrap-ansi and string-width in one run, and prints the rows of
+// Times calls on a cell and on a log, strip, cut, sliceColumns, wrap and width beside Debian's strip-ansi, slice-ansi, wrap-ansi and string-width in one run, and prints the rows of
 // texts and results that those packages get wrong, and how. NODE_PATH=/usr/share/nodejs node compare.mjs
 import { execFileSync } from 'node:child_process';
 import { mkdtempSync, readFileSync, rmSync, statSync } from 'node:fs';
@@ -7,7 +7,9 @@ import { tmpdir } from 'node:os';
 import { fileURLToPath } from 'node:url';
 
 const start = performance.now();
-const { blocks, cut, sliceColumns, strip, width, wrap } = await import('./index.js');
+const {
+  blocks, cut, editColumns, find, fit, mark, penAfter, sanitize, sliceColumns, split, strip, truncate, width, wrap,
+} = await import('./index.js');
 strip('\x1b[1ma');
 const started = performance.now() - start;
 const { inUnits, rows } = await import('./rows.mjs');
@@ -48,13 +50,13 @@ function timed(call) {
 
 const folder = mkdtempSync(`${tmpdir()}/`);
 execFileSync('python3', [fileURLToPath(new URL('../../bench/corpora.py', import.meta.url)), folder]);
-const texts = { cell: '\x1b[1;31m  disk full on sda1  \x1b[0m', 'log of 1 MB': readFileSync(`${folder}/log.1M`, 'utf8') };
+const texts = { a: 'a', cell: '\x1b[1;31m  disk full on sda1  \x1b[0m', 'log of 1 MB': readFileSync(`${folder}/log.1M`, 'utf8') };
 rmSync(folder, { recursive: true });
 console.log('microseconds of the processor a call');
 for (const [name, text] of Object.entries(texts)) {
   const middle = strip(text).length >> 1;
   const from = middle >> 1;
-  const columns = name === 'cell' ? 10 : 80;
+  const columns = name === 'log of 1 MB' ? 80 : 10;
   const calls = {
     strip: () => strip(text),
     'strip-ansi': () => stripAnsi(text),
@@ -65,6 +67,17 @@ for (const [name, text] of Object.entries(texts)) {
     'wrap-ansi': () => wrapAnsi(text, columns, { hard: true, trim: false }),
     width: () => width(text),
     'string-width': () => stringWidth(text),
+    ...(name === 'log of 1 MB' ? {} : {
+      find: () => find(text, 'full'),
+      fit: () => fit(text, columns),
+      truncate: () => truncate(text, columns, '…'),
+      editColumns: () => editColumns(text, [['truncate', columns, '…']]),
+      mark: () => mark(text, 'full', '1'),
+      split: () => split(text, ' '),
+      blocks: () => blocks(text),
+      penAfter: () => penAfter(text),
+      sanitize: () => sanitize(text),
+    }),
   };
   for (const [call, run] of Object.entries(calls)) {
     console.log(`${name}\t${call}\t${timed(run).toFixed(2)}`);

@@ -22,6 +22,10 @@ export function strip(text: string): string;
  */
 export function cut(text: string, start: number, end?: number): string;
 
+/** The side before a position, or that from it on, as `splitAt` returns both. */
+export function left(text: string, index: number): string;
+export function right(text: string, index: number): string;
+
 /** Both sides of a position, in their styles. Past the end, the right side is empty. Throws as `cut` does. */
 export function splitAt(text: string, index: number): [string, string];
 
@@ -46,6 +50,9 @@ export function hasAny(text: string): boolean;
 /** Whether no ESC in the text begins an unfinished sequence. */
 export function isWhole(text: string): boolean;
 
+/** Whether the index is a position of the plain text, and not between the surrogates of a character. Its end is one. */
+export function isCharBoundary(text: string, index: number): boolean;
+
 /** The index, or the position before it if it is between the surrogates of a character. Past the end of the plain text, its end. */
 export function floorCharBoundary(text: string, index: number): number;
 
@@ -69,11 +76,14 @@ export type Change = string | StyleNames | Style;
  * and blue.
  */
 export interface StyleNames extends Partial<Record<Attribute, boolean>> {
-  foreground?: Color | [number, number, number];
-  background?: Color | [number, number, number];
-  underlineColor?: Color | [number, number, number];
+  foreground?: Color | readonly [number, number, number];
+  background?: Color | readonly [number, number, number];
+  underlineColor?: Color | readonly [number, number, number];
   font?: number;
 }
+
+/** The SGR codes that set a style, such as `1;31`. */
+export function codes(style: Change): string;
 
 /** The text with each match of a pattern, as `matches` finds them, in a style, as `restyle` makes it. */
 export function mark(text: string, pattern: string, style: Change): string;
@@ -86,7 +96,10 @@ export function mark(text: string, pattern: string, style: Change): string;
  * anything but digits, `;` and `:`; or if a range begins before the one before it ends, ends below its start or past the end of the plain text,
  * or begins or ends between the surrogates of a character.
  */
-export function restyle(text: string, ranges: Iterable<[number, number]>, style: Change): string;
+export function restyle(text: string, ranges: Iterable<readonly [number, number]>, style: Change): string;
+
+/** The index of the first range that `restyle` and `replaceEach` refuse, or null if they refuse none. */
+export function refusedRange(text: string, ranges: Iterable<readonly [number, number]>): number | null;
 
 /**
  * The text without what its plain text has from `start` to `end`. Every sequence stays, so in a whole text each character that is left keeps its
@@ -123,7 +136,7 @@ export function replaceAll(text: string, pattern: string, replacement: string): 
  * the link that the character before the range has in this text. Every other character keeps its style and its link as there. Texts at the
  * same position come in order. Throws a RangeError as `restyle` does, for the ranges.
  */
-export function replaceEach(text: string, replacements: Iterable<[number, number, string]>): string;
+export function replaceEach(text: string, replacements: Iterable<readonly [number, number, string]>): string;
 
 /**
  * The text with what its plain text has from `start` to `end` linked to an address (OSC 8). Each character there loses another link that it had.
@@ -159,13 +172,13 @@ export function part(text: string, pattern: string, index: number): string | nul
 export function iterSplit(text: string, pattern: string): IterableIterator<string>;
 
 export type Edit =
-  | ['cut', number, number?]
-  | ['left', number]
-  | ['right', number]
-  | ['part', string, number]
-  | ['prefix', string]
-  | ['suffix', string]
-  | ['trim'];
+  | readonly ['cut', number, number?]
+  | readonly ['left', number]
+  | readonly ['right', number]
+  | readonly ['part', string, number]
+  | readonly ['prefix', string]
+  | readonly ['suffix', string]
+  | readonly ['trim'];
 
 /**
  * The text after all edits, each made on the result of the one before. Null if one is refused: its positions are bad, its prefix
@@ -298,11 +311,11 @@ export function expandTabs(text: string, stop?: number): string;
 
 /** An edit by columns, with what the call of its name takes after the text: `expandTabs`, `sliceColumns`, `truncate`, `pad`, `fit`. */
 export type ColumnEdit =
-  | ['expand', number?]
-  | ['slice', number?, number?]
-  | ['truncate', number, (string | { tail?: string; side?: 'end' | 'start' | 'middle' })?]
-  | ['pad', number, ('left' | 'center' | 'right')?]
-  | ['fit', number, ('left' | 'center' | 'right')?, string?];
+  | readonly ['expand', number?]
+  | readonly ['slice', number?, number?]
+  | readonly ['truncate', number, (string | { tail?: string; side?: 'end' | 'start' | 'middle' })?]
+  | readonly ['pad', number, ('left' | 'center' | 'right')?]
+  | readonly ['fit', number, ('left' | 'center' | 'right')?, string?];
 
 /**
  * The text after all edits by columns, each made on the result of the one before. It is on one line and safe, and nothing is open at

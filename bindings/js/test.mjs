@@ -9,11 +9,11 @@ import { test } from 'node:test';
 import { setFlagsFromString } from 'node:v8';
 import { runInNewContext } from 'node:vm';
 import {
-  OutOfMemoryError, blocks, columnOf, cut, difference, edit, endsWith, expandTabs, find, findFrom, fit, fitting, floorCharBoundary, hasAny, isSafe, isWhole, iterBlocks, iterLines, iterSplit, lines, linkAt,
-  insert, link, links, mark, matches, pad, part, penAfter, remove, replace, replaceAll, replaceEach, restyle, sanitize, sliceColumns, split, splitAt, startsWith, strip, stripPrefix, stripSuffix, styleOf, trim, truncate, union, unlink, width, wrap,
+  OutOfMemoryError, blocks, codes, columnOf, cut, difference, edit, endsWith, expandTabs, find, findFrom, fit, fitting, floorCharBoundary, hasAny, isCharBoundary, isSafe, isWhole, iterBlocks, iterLines, iterSplit, left, lines, linkAt,
+  insert, link, links, mark, matches, pad, part, penAfter, refusedRange, remove, replace, replaceAll, replaceEach, restyle, right, sanitize, sliceColumns, split, splitAt, startsWith, strip, stripPrefix, stripSuffix, styleOf, trim, truncate, union, unlink, width, wrap,
 } from './index.js';
 import * as ansiStr from './index.js';
-import { called, written } from './memory.js';
+import { called, writing } from './memory.js';
 import { pass } from './rows.mjs';
 import sliceAnsi from 'ansi_str/compat/slice-ansi';
 import stringWidth from 'ansi_str/compat/string-width';
@@ -252,7 +252,7 @@ test('a position past the end is the end, and an end below its start is refused,
 });
 
 // the calls whose first argument is a text
-const OF_TEXTS = Object.values(ansiStr).filter((call) => ![OutOfMemoryError, styleOf, union, difference].includes(call));
+const OF_TEXTS = Object.values(ansiStr).filter((call) => ![OutOfMemoryError, codes, styleOf, union, difference].includes(call));
 
 test('what is no text or no position is refused', () => {
   const calls = [...OF_TEXTS, (text) => find('', text), (text) => split('', text),
@@ -338,6 +338,17 @@ test('a policy has defaults: what may not stand is dropped, and so are links', (
 });
 
 test('bytes are made safe', () => {
+  // a length that a subclass tells isn't read, nor a name
+  class Longer extends Uint8Array {
+    get length() {
+      return 5000000;
+    }
+
+    get [Symbol.toStringTag]() {
+      return 'Int8Array';
+    }
+  }
+  assert.equal(sanitize(Longer.of(97, 27)), 'a');
   const every = Uint8Array.from({ length: 256 }, (_, byte) => byte);
   for (const bytes of [Buffer.from('caf\xe9\x1b[2J', 'latin1'), new Uint8Array(), new Uint8Array(1e5).fill(255), every, every.subarray(200, 210)]) {
     const decoded = new TextDecoder('utf-8', { ignoreBOM: true }).decode(bytes);
@@ -353,6 +364,21 @@ test('bytes are made safe', () => {
   for (const call of OF_TEXTS.filter((call) => call !== sanitize)) {
     assert.throws(() => call(every), /must be a string/);
   }
+});
+
+test('what the other languages have by these names', () => {
+  assert.deepEqual([left('\x1b[1mab', 1), right('\x1b[1mab', 1)], splitAt('\x1b[1mab', 1));
+  assert.equal(codes({ bold: true, foreground: 'red' }), '1;31');
+  assert.deepEqual([0, 1, 2, 3, 4].map((index) => isCharBoundary('\x1b[1m😀a', index)), [true, false, true, true, false]);
+  assert.equal(refusedRange('é\x1b[1mab', [[0, 1], [1, 2], [2, 9]]), 2);
+  assert.equal(refusedRange('ab', [[0, 1], [1, 2]]), null);
+});
+
+test('options and ranges of another form are refused, and say of which', () => {
+  for (const call of [() => truncate('abc', 2, { tial: '…' }), () => wrap('abc', 2, { ident: '' }), () => sanitize('abc', { link: true }), () => isSafe('abc', { show: true })]) {
+    assert.throws(call, /^TypeError: there is no option \w+: they are/);
+  }
+  assert.throws(() => restyle('abc', [0, 1], '1'), /^TypeError: the ranges must be pairs of a start and an end, such as \[\[0, 1\]\], not 0/);
 });
 
 test('styles that print differently differ', () => {
@@ -561,8 +587,8 @@ test('an iterator whose item lacks memory throws, and ends', () => {
 });
 
 test('a call may use almost 4 GiB, and no more', () => {
-  const stripIn = (bytes) => called(['\x1b[1ma'], [], () => ({ bytes, entries: 0, entry: 0 }),
-    (exports, frame) => exports.ansi_str_raw_strip(...frame.head, ...frame.texts[0], ...frame.out), written);
+  const strips = writing((x, f) => x.ansi_str_raw_strip(f.answer, 0, f.block, 0, f.text, 0, f.length, 0, f.buffer, 0, f.room, 0));
+  const stripIn = (bytes) => called({ ...strips, room: () => bytes }, '\x1b[1ma');
   // (the arena has as many bytes as the room for the result)
   assert.equal(stripIn(0x7f000000), 'a');
   assert.throws(() => stripIn(0x80000000), OutOfMemoryError);
