@@ -13,4 +13,5 @@ pub mod CellFrontLemmas
 pub mod FrontLemmas
 pub mod AsciiLemmas
 pub mod LengthLemmas
+pub mod ShortLinkLemmas
 mod SafeExamples

@@ -41,6 +41,10 @@ longest_address = 2083
 abbrev pub longest_parameters : ℕ
 longest_parameters = 253
 
+-- the greatest length of its sequence: ESC `]8;`, the parameters, `;`, the address and a terminator
+abbrev pub longest_link : ℕ
+longest_link = 4 + longest_parameters + 1 + longest_address + 2
+
 -- the sequence w is a link sequence whose parameters and address are no longer than that
 abbrev pub is_short_link : List ℕ → Bool
 is_short_link w = is_link w && (nat_le (parameters_len w) longest_parameters && nat_le (length (unwrap_or (address_of w) [])) longest_address)

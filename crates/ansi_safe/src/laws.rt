@@ -6,7 +6,7 @@ ghost use Rattle.std.specs.Prelude.{◌≡◌, ◌≤◌, ◌+◌, ◌++◌, ℕ
 ghost use Rattle.std.specs.Prelude.{encode_utf8_all};
 ghost use Rattle.std.specs.Str.{IsUtf8};
 ghost use Rattle.ansi_items.specs.Pieces.{pieces_of};
-ghost use Rattle.ansi_items.specs.Plain.{plain_bytes, plain, is_whole};
+ghost use Rattle.ansi_items.specs.Plain.{plain_bytes, plain, marks, is_whole};
 ghost use Rattle.ansi_style.specs.Styled.{styled};
 ghost use Rattle.ansi_style.specs.Written.{longest_close};
 ghost use Rattle.ansi_safe.specs.declared.cells.Place.TheVariants.{Paragraph};
@@ -15,7 +15,7 @@ ghost use Rattle.ansi_safe.specs.declared.policy.Links.{Links};
 ghost use Rattle.ansi_safe.specs.declared.policy.Links.TheVariants.{Keep};
 ghost use Rattle.ansi_safe.specs.declared.policy.Policy.{Policy};
 ghost use Rattle.ansi_safe.specs.declared.policy.Rest.TheVariants.{Drop};
-ghost use Rattle.ansi_safe.specs.Links.{ending, longest_link_end, IsClosed};
+ghost use Rattle.ansi_safe.specs.Links.{ending, link_at, link_of, longest_link, longest_link_end, IsClosed};
 ghost use Rattle.ansi_safe.specs.Safe.{is_safe};
 ghost use Rattle.ansi_safe.specs.Sanitized.{sanitized, allowed, marked};
 ghost use Rattle.ansi_safe.specs.Cells.{run_in, cell, paragraph, cell_char};
@@ -66,6 +66,14 @@ pub fn cell_is_by_character()
 pub fn paragraph_is_by_run()
     ensures { (t : List ℕ) → IsUtf8 t → plain (paragraph t)
         ≡ encode_utf8_all (flat_map (λ p. run_in Paragraph (chars (plain_bytes p))) (pieces_of t)) }
+{}
+
+/// What opened the link at a place of a safe text, or at its end, has at most `longest_link` bytes.
+pub fn links_are_short()
+    ensures at { (links : Links) (t : List ℕ) (i : ℕ) → IsTrue (is_safe links t) →
+        length (link_at t i) ≤ longest_link }
+    ensures end { (links : Links) (t : List ℕ) → IsTrue (is_safe links t) →
+        length (link_of (marks t)) ≤ longest_link }
 {}
 
 /// What ends a text has at most `LONGEST_ENDING` bytes.
