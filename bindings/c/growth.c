@@ -11,11 +11,11 @@
 
 enum { LONG = 1 << 20, SHORT = LONG / 8, ROOM = 64 << 20, ENTRIES = LONG + 1, MOST = 10 };
 
-/* A text, its plain text's length, and the ranges of its matches of `ab`. */
+/* A text, its plain text's length, the ranges of its matches of `ab`, and where the middle one of these begins. */
 struct text {
     const char *name;
     char *bytes;
-    size_t len, plain_len;
+    size_t len, plain_len, half;
     ansi_str_range *ranges;
     ansi_str_replacement *replacements;
     size_t count;
@@ -52,15 +52,15 @@ static union {
 
 CALL(strip, strip(OF, INTO))
 CALL(cut, cut(OF, 1, t->plain_len - 1, INTO))
-CALL(left, left(OF, t->plain_len / 2, INTO))
-CALL(right, right(OF, t->plain_len / 2, INTO))
+CALL(left, left(OF, t->half, INTO))
+CALL(right, right(OF, t->half, INTO))
 CALL(trim, trim(OF, INTO))
 CALL(part, part(OF, AB, t->count, INTO))
 CALL(matches, matches(OF, AB, entries.ranges, ENTRIES))
-CALL(find_from, find_from(OF, t->plain_len / 2, AB))
+CALL(find_from, find_from(OF, t->half, AB))
 CALL(restyle, restyle(OF, t->ranges, t->count, "1;31", 4, INTO))
 CALL(mark, mark(OF, AB, "1;31", 4, INTO))
-CALL(remove_half, remove(OF, 0, t->plain_len / 2, INTO))
+CALL(remove_half, remove(OF, 0, t->half, INTO))
 CALL(replace, replace(OF, 0, 2, "\x1b[3mcd", 6, INTO))
 CALL(insert, insert(OF, 2, "\x1b[3mcd", 6, INTO))
 CALL(replace_all, replace_all(OF, AB, "\x1b[3mcd", 6, INTO))
@@ -71,8 +71,8 @@ CALL(links, links(OF, INTO, entries.links, ENTRIES))
 CALL(split, split(OF, AB, INTO, entries.ends, ENTRIES))
 CALL(blocks, blocks(OF, INTO, entries.blocks, ENTRIES))
 CALL(width, width(OF))
-CALL(truncate_text, truncate(OF, t->plain_len / 2, "..", 2, INTO))
-CALL(slice, slice(OF, 1, t->plain_len / 2, INTO))
+CALL(truncate_text, truncate(OF, t->half, "..", 2, INTO))
+CALL(slice, slice(OF, 1, t->half, INTO))
 CALL(wrap, wrap(OF, 40, INTO, entries.ends, ENTRIES))
 CALL(lines, lines(OF, 40, entries.lines, ENTRIES))
 CALL(sanitize, sanitize(OF, ANSI_STR_SHOW, ANSI_STR_KEEP_LINKS, INTO))
@@ -92,8 +92,8 @@ static int edit(const struct text *t) {
 }
 
 static int edit_columns(const struct text *t) {
-    ansi_str_column_step steps[] = {ansi_str_column_edit_slice(1, t->plain_len / 2), ansi_str_column_edit_pad(t->plain_len, ANSI_STR_RIGHT),
-                                    ansi_str_column_edit_truncate(t->plain_len / 2, "..", 2, ANSI_STR_MIDDLE)};
+    ansi_str_column_step steps[] = {ansi_str_column_edit_slice(1, t->half), ansi_str_column_edit_pad(t->plain_len, ANSI_STR_RIGHT),
+                                    ansi_str_column_edit_truncate(t->half, "..", 2, ANSI_STR_MIDDLE)};
     return ansi_str_edit_columns(OF, steps, 3, INTO).status == ANSI_STR_OK;
 }
 
@@ -155,7 +155,7 @@ __attribute__((noinline)) static int counted(const struct call *call, const stru
 }
 
 static struct text text_of(const char *name, const char *piece, size_t most) {
-    struct text t = {name, NULL, 0, 0, NULL, NULL, 0};
+    struct text t = {name, NULL, 0, 0, 0, NULL, NULL, 0};
     t.bytes = malloc(most);
     size_t piece_len = strlen(piece);
     for (; t.len + piece_len <= most; t.len += piece_len) {
@@ -172,6 +172,7 @@ static struct text text_of(const char *name, const char *piece, size_t most) {
     if (t.count < most / 32) {
         fail("matches", &t, "too few");
     }
+    t.half = t.ranges[t.count / 2].start;
     return t;
 }
 
