@@ -9,6 +9,7 @@ pub mod RestLemmas
 pub mod CharacterLemmas
 pub mod CellLemmas
 pub mod CellTextLemmas
+pub mod EmptyLemmas
 pub mod CellFrontLemmas
 pub mod FrontLemmas
 pub mod AsciiLemmas

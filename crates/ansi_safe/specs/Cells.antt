@@ -1,5 +1,5 @@
 -- What shown texts are made of: the text of a cell, on one line, and of a paragraph, with line ends.
-use Rattle.std.specs.Prelude.{ℕ, ◌==◌, Bool, not, ◌&&◌, ◌||◌, List, [], ◌∷◌, ◌++◌, flat_map, chars, encode_utf8_all, if◌then◌else◌}
+use Rattle.std.specs.Prelude.{ℕ, ◌==◌, Bool, not, ◌&&◌, ◌||◌, List, [], ◌∷◌, ◌++◌, length, flat_map, chars, encode_utf8_all, if◌then◌else◌}
 use Rattle.std.specs.List.{list_all}
 use Rattle.std.specs.Str.{byte}
 use Rattle.ansi_items.specs.Pieces.{Piece, Text, spelling, pieces_of}
@@ -62,3 +62,13 @@ is_placed place t = list_all (piece_stays place) (pieces_of t)
 -- the text of t in a cell is t
 abbrev pub is_cell : List ℕ → Bool
 is_cell t = is_placed Cell t
+
+-- Texts of which nothing is left in a cell.
+
+-- a character is neither printing, nor a blank in a cell
+abbrev pub is_dropped : ℕ → Bool
+is_dropped c = not (is_printing c || (c == byte "\t" || c == byte "\n"))
+
+-- nothing of a piece is left in a cell
+abbrev pub is_left_out : Piece → Bool
+is_left_out p = length (piece_in Cell p) == 0

@@ -1,5 +1,5 @@
 //! What shown texts are made of: the text of a cell, on one line, and of a paragraph.
-ghost use Rattle.std.specs.Prelude.{◌≡◌, ◌↔◌, ◌≤◌, ◌∷◌, ◌++◌, length, take, drop, IsTrue, IsOk, IfOk};
+ghost use Rattle.std.specs.Prelude.{◌≡◌, ◌↔◌, ◌≤◌, ◌==◌, ◌∷◌, ◌++◌, length, take, drop, IsTrue, IsOk, IfOk};
 ghost use Rattle.std.specs.Prelude.{OnOk, MatchOption, IfSome, is_some, [], chars, encode_utf8_all};
 ghost use Rattle.std.specs.Prelude.{string_bytes};
 ghost use Rattle.std.specs.Cow.{cow_str_bytes, IsBorrowedStr};
@@ -18,7 +18,7 @@ ghost use Rattle.ansi_safe.specs.declared.policy.Links.TheVariants.{Keep};
 ghost use Rattle.ansi_safe.specs.Safe.{is_safe};
 ghost use Rattle.ansi_safe.specs.Cells.{in_place, run_in, piece_in, placed, cell, paragraph};
 ghost use Rattle.ansi_safe.specs.Cells.{cell_char, stays_in, run_stays, piece_stays, is_placed};
-ghost use Rattle.ansi_safe.specs.Cells.{is_cell};
+ghost use Rattle.ansi_safe.specs.Cells.{is_cell, is_dropped, is_left_out};
 ghost use Rattle.ansi_safe.specs.Links.{link_of, link_end};
 
 use crate::allowed::{is_allowed, is_printing, may_stay, split_first};
@@ -60,6 +60,53 @@ pub fn cell_of<A: Allocator>(alloc: A, text: &str) -> Result<CowStr<'_, A>, Allo
         IsTrue (list_all (stays_in Cell) (chars (plain (cow_str_bytes c))))) }
 {
     text_in(alloc, text, Place::Cell)
+}
+
+/// Whether a text is its own text of a cell, as [`cell_of`] returns it. Doesn't allocate. (Own.)
+///
+/// ```
+/// assert!(rt; is_cell("\x1b[1ma b") && !is_cell("a\tb"));
+/// ```
+pub fn is_cell(text: &str) -> bool
+    ensures { IsTrue result ↔ (cell text.now ≡ text.now) }
+{
+    is_placed(text, Place::Cell)
+}
+
+/// Whether nothing of a text is left in a cell, so that [`cell_of`] returns an empty text. Doesn't
+/// allocate. (Own.)
+///
+/// ```
+/// assert!(rt; is_empty_cell("\x07\x1b[2J") && !is_empty_cell("\t"));
+/// ```
+pub fn is_empty_cell(text: &str) -> bool
+    ensures { result ≡ (length (cell text.now) == 0) }
+{
+    for item in Scanner::new(text) {
+        if !is_left_out(item.kind, &text[item.start..item.end]) {
+            return false;
+        }
+    }
+    true
+}
+
+/// Whether nothing of an item of this kind is left in a cell.
+fn is_left_out(kind: Kind, piece: &str) -> bool
+    requires { kind ≡ kind_of (piece_of_kind kind piece.now) }
+    ensures { result ≡ is_left_out (piece_of_kind kind piece.now) }
+{
+    match kind {
+        Kind::Text => is_run_left_out(piece),
+        _ => !may_stay(kind, piece, Links::Keep),
+    }
+}
+
+/// Whether nothing of a run is left in a cell: no character of it is printing, or a TAB or LF.
+fn is_run_left_out(run: &str) -> bool
+    ensures { result ≡ list_all is_dropped (chars run.now) }
+{
+    run.chars()
+        .all(|c| !(is_printing(c) || matches!(c, '\t' | '\n')))
 }
 
 /// The text of a cell, as `cell_of` returns it, and what ends the link and the style at its end. A

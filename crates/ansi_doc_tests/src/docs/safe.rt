@@ -1,6 +1,7 @@
 //! The examples of the docs of `ansi_safe`, in the same words.
 use ansi_safe::cells::{
-    cell_and_ending, cell_char, cell_of, is_paragraph, paragraph_of, written_paragraph,
+    cell_and_ending, cell_char, cell_of, is_cell, is_empty_cell, is_paragraph, paragraph_of,
+    written_paragraph,
 };
 use ansi_safe::links::pen_after;
 use ansi_safe::safe::{is_safe, pen_if_safe, sanitize};
@@ -94,6 +95,16 @@ fn cell_of_example(rt: HostRuntime) -> Result<(), Fail> {
     let cell = cell_of(rt.alloc(), "\x1b[1ma\tb\r\n\x07")?;
     assert!(rt; cell.as_str() == "\x1b[1ma b ");
     Ok(())
+}
+
+#[test]
+fn is_cell_example(rt: HostRuntime) {
+    assert!(rt; is_cell("\x1b[1ma b") && !is_cell("a\tb"));
+}
+
+#[test]
+fn is_empty_cell_example(rt: HostRuntime) {
+    assert!(rt; is_empty_cell("\x07\x1b[2J") && !is_empty_cell("\t"));
 }
 
 #[test]
