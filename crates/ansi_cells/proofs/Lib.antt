@@ -26,6 +26,7 @@ pub mod AsciiSliceLemmas
 pub mod SidesLemmas
 pub mod IndentLawLemmas
 pub mod TailLemmas
+pub mod TailForLemmas
 pub mod RowLemmas
 pub mod PlainCellLemmas
 pub mod FrontRunLemmas

@@ -151,7 +151,7 @@ all-on_line (c ∷ cs) all =
     let both = and_parts (is_printing c) (list_all is_printing cs) all in
     and_from _ _ (printing-on_line c both.0) (all-on_line cs both.1)
 
-closing-bare : (t : List ℕ) → has_escape t ≡ false → closing t ≡ []
+pub closing-bare : (t : List ℕ) → has_escape t ≡ false → closing t ≡ []
 closing-bare t bare = ap (λ ms. link_end (link_of (marks_up_to (length (plain t)) ms)) ++ close (style_of (marks_up_to (length (plain t)) ms))) (marks-bare t bare)
 
 pub closed_cell-printing : (t : List ℕ) → Prints t → closed_cell t ≡ t

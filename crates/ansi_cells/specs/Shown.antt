@@ -1,5 +1,5 @@
 -- Truncated and padded texts, ready for display: the style and link still open at their end are closed.
-use Rattle.std.specs.Prelude.{◌≡◌, ℕ, ◌+◌, ◌-◌, ◌/◌, Bool, not, ◌&&◌, List, [], ◌∷◌, ◌++◌, length, map, chars, encode_utf8, encode_utf8_all, nat_le, if◌then◌else◌}
+use Rattle.std.specs.Prelude.{◌≡◌, ◌⊎◌, ℕ, ◌+◌, ◌-◌, ◌/◌, Bool, not, ◌&&◌, List, [], ◌∷◌, ◌++◌, length, map, chars, encode_utf8, encode_utf8_all, nat_le, if◌then◌else◌, IsFalse}
 use Rattle.std.specs.Cow.{cow_str_bytes, IsBorrowedStr}
 use Rattle.ansi_items.specs.Plain.{plain, marks, marks_up_to}
 use Rattle.ansi_style.specs.Rendition.{plain_style}
@@ -30,6 +30,10 @@ truncated_end t width tail = fitting_end (truncated_width t width tail) (cluster
 -- what is written after the cut: what closes the pen there, and the tail unchanged
 abbrev pub truncated_ending : List ℕ → ℕ → List ℕ → List ℕ
 truncated_ending t width tail = pen_close t (truncated_end t width tail) ++ (if has_tail t width tail then tail else [])
+
+-- a text in place of the tail with which the text t is truncated: that tail, or nothing if it isn't written (own)
+abbrev pub IsTailFor : List ℕ → ℕ → List ℕ → List ℕ → Type 0
+IsTailFor t width tail x = (x ≡ tail) ⊎ ((x ≡ []) × IsFalse (has_tail t width tail))
 
 -- the text t truncated to `width` columns: its plain bytes and marks up to the cut, as a cut has them, and what is written after them (own)
 unfoldable pub truncated : List ℕ → ℕ → List ℕ → List ℕ

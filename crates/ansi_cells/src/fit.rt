@@ -15,7 +15,7 @@ ghost use Rattle.ansi_cells.specs.Shown.{closed_cell, shown_bytes, IsLent};
 
 use crate::plain_cells::bare_front;
 use crate::shown::{
-    Alignment, Shown, TruncatedParts, closed_cell, join, pad_cell, truncated_parts, write_shown,
+    Alignment, Shown, TruncatedParts, join, pad_cell, tail_for, truncated_parts, write_shown,
 };
 use ansi_safe::links::{Ending, pen_after};
 use ansi_style::styles;
@@ -52,13 +52,12 @@ pub fn fit<'t, A: Allocator + Copy>(
         ≤ length text.now + length (closed_cell tail.now)
         + missing (truncated (cell text.now) width (closed_cell tail.now)) width
         + 2 * (longest_link_end + longest_close)) }
-    ensures takes_no_memory { (cell tail.now ≡ tail.now) × (closing (cell tail.now) ≡ [])
-        × KeptStays text.now width (closed_cell tail.now)
+    ensures takes_no_memory { KeptStays text.now width (closed_cell tail.now)
         × (truncated_ending (cell text.now) width (closed_cell tail.now) ≡ [])
         × (missing (truncated (cell text.now) width (closed_cell tail.now)) width ≡ 0)
         × (closing (truncated (cell text.now) width (closed_cell tail.now)) ≡ []) → IsOk result }
 {
-    let tail = closed_cell(alloc, tail)?;
+    let tail = tail_for(alloc, text, width, tail)?;
     fit_beside(alloc, text, width, alignment, tail.as_str())
 }
 

@@ -22,7 +22,7 @@ ghost use Rattle.ansi_clusters.specs.Views.{seen_text, seen_len};
 ghost use Rattle.ansi_cells.specs.Rows.{cell_row, row_screen, truncated_row, padded_row};
 ghost use Rattle.ansi_cells.specs.Screens.{screen};
 ghost use Rattle.ansi_cells.specs.Shown.{has_tail, truncated_width, truncated_ending};
-ghost use Rattle.ansi_cells.specs.Shown.{truncated, KeptStays};
+ghost use Rattle.ansi_cells.specs.Shown.{truncated, KeptStays, IsTailFor};
 ghost use Rattle.ansi_cells.specs.Shown.{missing, before_text, between_blanks, closing};
 ghost use Rattle.ansi_clusters.specs.Lines.{blanks};
 ghost use Rattle.ansi_cells.specs.Shown.{padded, closed_cell, shown_bytes, IsLent};
@@ -37,8 +37,8 @@ use crate::widths;
 use ansi_clusters::fits::{Fitted, longest_from};
 use ansi_clusters::views::View;
 use ansi_clusters::walks::{Walk, first_run};
-use ansi_safe::cells::{cell_and_ending, cell_and_ending_after};
-use ansi_safe::links::{Ending, LONGEST_ENDING};
+use ansi_safe::cells::{cell_and_ending, cell_and_ending_after, is_cell, is_empty_cell};
+use ansi_safe::links::{Ending, LONGEST_ENDING, pen_after};
 use ansi_safe::printable::printable_len;
 use std::alloc::{AllocError, Allocator};
 use std::borrow::CowStr;
@@ -83,11 +83,10 @@ pub fn truncate<'t, A: Allocator + Copy>(
         × (truncated_ending (cell text.now) width (closed_cell tail.now) ≡ []))) }
     ensures len { IfOk result (λ c. length (cow_str_bytes c) ≤ length text.now
         + length (closed_cell tail.now) + longest_link_end + longest_close) }
-    ensures takes_no_memory { (cell tail.now ≡ tail.now) × (closing (cell tail.now) ≡ [])
-        × KeptStays text.now width (closed_cell tail.now)
+    ensures takes_no_memory { KeptStays text.now width (closed_cell tail.now)
         × (truncated_ending (cell text.now) width (closed_cell tail.now) ≡ []) → IsOk result }
 {
-    let tail = closed_cell(alloc, tail)?;
+    let tail = tail_for(alloc, text, width, tail)?;
     truncate_beside(alloc, text, width, tail.as_str())
 }
 
@@ -170,6 +169,55 @@ pub fn closed_cell<'t, A: Allocator + Copy>(
     }
     // It isn't too narrow, so its link and its style are closed, and it gets no blanks.
     pad(alloc, text, 0, Alignment::Left)
+}
+
+/// The tail with which a text is truncated, as [`closed_cell`] makes it. If it would have to be changed
+/// and isn't written, it is empty instead, so the call allocates only for a tail that is written. The
+/// result may borrow from the tail and lives as long as it. `Err` means out of memory. (Own.)
+///
+/// ```
+/// assert!(rt; tail_for(rt.alloc(), "connection", 5, "\t~")?.as_str() == " ~");
+/// assert!(rt; tail_for(rt.alloc(), "disk", 5, "\t~")?.as_str() == "");
+/// ```
+pub fn tail_for<'t, A: Allocator + Copy>(
+    alloc: A,
+    text: &str,
+    width: usize,
+    tail: &'t str,
+) -> Result<CowStr<'t, A>, AllocError>
+    ensures bytes { IfOk result (λ c.
+        IsTailFor (cell text.now) width (closed_cell tail.now) (cow_str_bytes c)) }
+    ensures utf8 { IsUtf8 tail.now }
+    ensures takes_no_memory { (IsTrue (has_tail (cell text.now) width (closed_cell tail.now)) →
+        closed_cell tail.now ≡ []) → IsOk result }
+{
+    if is_usual_tail(tail) || is_closed_cell(tail) {
+        return Ok(CowStr::Borrowed(tail));
+    }
+    if is_empty_cell(tail) || !has_tail(text, width, tail) {
+        return Ok(CowStr::Borrowed(""));
+    }
+    closed_cell(alloc, tail)
+}
+
+/// Whether a text is the text of a cell and leaves nothing open, so that it stays as it is beside another.
+fn is_closed_cell(text: &str) -> bool
+    ensures { IsTrue result → closed_cell text.now ≡ text.now }
+{
+    is_cell(text) && pen_after(text).ending().is_empty()
+}
+
+/// Whether a tail is written: the text is wider than `width`, and the tail isn't. The text is read as far
+/// as `fitting` reads it.
+fn has_tail(text: &str, width: usize, tail: &str) -> bool
+    ensures { result ≡ has_tail (cell text.now) width (closed_cell tail.now) }
+{
+    if width < widths::width(tail, View::Shown) {
+        return false;
+    }
+    let from = fitted(text, width, &plain_runs(text, width));
+    let (_, is_all) = longest(text, width, from);
+    !is_all
 }
 
 /// Whether a text is `…` or printable ASCII, so that it stays as it is in a cell, closed. `false`

@@ -12,10 +12,10 @@ ghost use Rattle.ansi_clusters.specs.Columns.{columns};
 ghost use Rattle.ansi_cells.specs.OneLine.{is_one_line};
 ghost use Rattle.ansi_cells.specs.Rows.{cell_row, row_screen, truncated_row_at};
 ghost use Rattle.ansi_cells.specs.Screens.{screen};
-ghost use Rattle.ansi_cells.specs.Shown.{truncated_ending, KeptStays, closing, closed_cell};
+ghost use Rattle.ansi_cells.specs.Shown.{truncated_ending, KeptStays, closed_cell};
 ghost use Rattle.ansi_cells.specs.Sides.{is_cut_at_end, fitting_tail, cut_before_end, truncated_at};
 
-use crate::shown::{closed_cell, tail_width, truncate_beside};
+use crate::shown::{tail_for, tail_width, truncate_beside};
 use crate::slices::push_slice;
 use crate::widths;
 use ansi_clusters::views::View;
@@ -152,14 +152,12 @@ pub fn truncate_with<'t, A: Allocator + Copy>(
     ensures len { IfOk result (λ c. length (cow_str_bytes c) ≤ 2 * length text.now
         + length (closed_cell to.now.tail.now) + to.now.width
         + 2 * (longest_start_and_close + longest_link_end)) }
-    ensures takes_no_memory { (cell to.now.tail.now ≡ to.now.tail.now)
-        × (closing (cell to.now.tail.now) ≡ [])
-        × KeptStays text.now to.now.width (closed_cell to.now.tail.now)
+    ensures takes_no_memory { KeptStays text.now to.now.width (closed_cell to.now.tail.now)
         × IsTrue (is_cut_at_end to.now.side (cell text.now) to.now.width)
         × (truncated_ending (cell text.now) to.now.width (closed_cell to.now.tail.now) ≡ []) →
         IsOk result }
 {
-    let tail = closed_cell(alloc, to.tail)?;
+    let tail = tail_for(alloc, text, to.width, to.tail)?;
     let shown = Truncation {
         width: to.width,
         tail: tail.as_str(),

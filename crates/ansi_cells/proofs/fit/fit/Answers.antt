@@ -1,20 +1,19 @@
-use Rattle.std.proofs.Common.{◌≡◌, ◌↔◌, ◌+◌, ◌*◌, ◌≤◌, [], length, IfOk, sym, ◌∙◌, subst}
-use Rattle.std.specs.Cow.{cow_str_bytes, IsBorrowedStr}
+use Rattle.std.proofs.Common.{◌≡◌, ℕ, List, [], sym, ◌∙◌, ap, subst, arith}
 use Rattle.std.proofs.lemmas.Bool.{false≢true}
 use Rattle.std.proofs.lemmas.Result.{IfOk-weaker}
-use Rattle.ansi_style.specs.Written.{longest_close}
 use Rattle.ansi_safe.specs.Cells.{cell}
-use Rattle.ansi_safe.specs.Links.{longest_link_end}
-use Rattle.ansi_cells.specs.Fitted.{fitted}
-use Rattle.ansi_cells.specs.Shown.{truncated_ending, truncated, KeptStays, missing, closing, closed_cell}
+use Rattle.ansi_cells.specs.Shown.{missing, closing, padded, closed_cell}
 use Rattle.ansi_cells.proofs.RowLemmas.{screen-fitted_cell}
+use Rattle.ansi_cells.proofs.TailForLemmas.{same-cut, truncated-same, ending-same, stays-same, tail-none}
 use Rattle.ansi_cells.proofs.TailLemmas.{shown-cell, shown-fitted, shown-safe, shown-one_line, shown-closed}
 use Rattle.ansi_cells.proofs.fit.fit.Goals as goal
 
 -- the tail is a cell, closed
 
 pub returns-clause-bytes : goal.returns-clause-bytes
-returns-clause-bytes g c = subst (λ tail. IfOk c.fit_beside.result (λ s. cow_str_bytes s ≡ fitted (cell c.args.text.now) c.args.width c.args.alignment tail)) (c.as_str.ensures.value ∙ c.in_ok-tail.ensures.bytes) c.fit_beside.ensures.bytes
+returns-clause-bytes g c =
+    let same = same-cut c.as_str.ensures.value c.in_ok-tail.ensures.bytes in
+    IfOk-weaker c.fit_beside.result _ _ (λ s is. is ∙ ap (λ u. padded u c.args.width c.args.alignment) (truncated-same same)) c.fit_beside.ensures.bytes
 
 pub returns-clause-safe : goal.returns-clause-safe
 returns-clause-safe g c =
@@ -36,18 +35,30 @@ returns-clause-screen g c = IfOk-weaker c.fit_beside.result _ _ (λ s is. screen
 
 pub returns-clause-borrowed : goal.returns-clause-borrowed
 returns-clause-borrowed g c =
-    let t = c.args.text.now in
-    subst (λ tail. IfOk c.fit_beside.result (λ s. IsBorrowedStr s ↔ (KeptStays t c.args.width tail × (truncated_ending (cell t) c.args.width tail ≡ []) × (missing (truncated (cell t) c.args.width tail) c.args.width ≡ 0) × (closing (truncated (cell t) c.args.width tail) ≡ [])))) (c.as_str.ensures.value ∙ c.in_ok-tail.ensures.bytes) c.fit_beside.ensures.borrowed
+    let same = same-cut c.as_str.ensures.value c.in_ok-tail.ensures.bytes in
+    let stays = stays-same c.args.text.now same in
+    let ends = ending-same same in
+    let cut = truncated-same same in
+    let full : List ℕ → Type 0 = λ u. missing u c.args.width ≡ 0 in
+    let closed : List ℕ → Type 0 = λ u. closing u ≡ [] in
+    IfOk-weaker c.fit_beside.result _ _ (λ s iff. (
+      λ b. (stays.0 (iff.0 b).0, sym ends ∙ (iff.0 b).1, subst full cut (iff.0 b).2, subst closed cut (iff.0 b).3),
+      λ all. iff.1 (stays.1 all.0, ends ∙ all.1, subst full (sym cut) all.2, subst closed (sym cut) all.3),
+    )) c.fit_beside.ensures.borrowed
 
 pub returns-clause-len : goal.returns-clause-len
 returns-clause-len g c =
-    let t = c.args.text.now in
-    subst (λ tail. IfOk c.fit_beside.result (λ s. length (cow_str_bytes s) ≤ length t + length tail + missing (truncated (cell t) c.args.width tail) c.args.width + 2 * (longest_link_end + longest_close))) (c.as_str.ensures.value ∙ c.in_ok-tail.ensures.bytes) c.fit_beside.ensures.len
+    let same = same-cut {t = cell c.args.text.now} {width = c.args.width} c.as_str.ensures.value c.in_ok-tail.ensures.bytes in
+    IfOk-weaker c.fit_beside.result _ _ (λ s most. omega (arith, most, same.len, ap (λ u. missing u c.args.width) (truncated-same same))) c.fit_beside.ensures.len
 
 pub returns-clause-takes_no_memory : goal.returns-clause-takes_no_memory
 returns-clause-takes_no_memory g c =
-    let t = c.args.text.now in
-    λ all. c.fit_beside.ensures.takes_no_memory (subst (λ tail. KeptStays t c.args.width tail × (truncated_ending (cell t) c.args.width tail ≡ []) × (missing (truncated (cell t) c.args.width tail) c.args.width ≡ 0) × (closing (truncated (cell t) c.args.width tail) ≡ [])) (sym (c.as_str.ensures.value ∙ c.in_ok-tail.ensures.bytes)) (all.2, all.3, all.4, all.5))
+    let same = same-cut c.as_str.ensures.value c.in_ok-tail.ensures.bytes in
+    let cut = sym (truncated-same same) in
+    let full : List ℕ → Type 0 = λ u. missing u c.args.width ≡ 0 in
+    let closed : List ℕ → Type 0 = λ u. closing u ≡ [] in
+    λ all. c.fit_beside.ensures.takes_no_memory ((stays-same c.args.text.now same).1 all.0, ending-same same ∙ all.1, subst full cut all.2, subst closed cut all.3)
 
 pub returns-in_err-tail-clause-takes_no_memory : goal.returns-in_err-tail-clause-takes_no_memory
-returns-in_err-tail-clause-takes_no_memory g c = λ all. absurd (false≢true (rw c.in_err-tail.was at (c.closed_cell.ensures.takes_no_memory (all.0, all.1))))
+returns-in_err-tail-clause-takes_no_memory g c =
+    λ all. absurd (false≢true (rw c.in_err-tail.was at (c.tail_for.ensures.takes_no_memory (tail-none (cell c.args.text.now) (closed_cell c.args.tail.now) c.args.width all.1))))

@@ -1,53 +1,55 @@
-use Rattle.std.proofs.Common.{◌≡◌, ◌↔◌, ◌+◌, ◌*◌, ◌≤◌, [], length, IfOk, IsTrue, sym, ◌∙◌, subst}
-use Rattle.std.specs.Cow.{cow_str_bytes, IsBorrowedStr}
+use Rattle.std.proofs.Common.{sym, ◌∙◌, arith}
 use Rattle.std.proofs.lemmas.Bool.{false≢true}
 use Rattle.std.proofs.lemmas.Result.{IfOk-weaker}
-use Rattle.ansi_style.specs.Written.{longest_start_and_close}
 use Rattle.ansi_safe.specs.Cells.{cell}
-use Rattle.ansi_safe.specs.Links.{longest_link_end}
-use Rattle.ansi_cells.specs.Shown.{truncated_ending, KeptStays, closed_cell}
-use Rattle.ansi_cells.specs.Sides.{is_cut_at_end, truncated_at}
+use Rattle.ansi_cells.specs.Shown.{closed_cell}
 use Rattle.ansi_cells.proofs.RowLemmas.{screen-truncated_cell_at}
+use Rattle.ansi_cells.proofs.TailForLemmas.{same-cut, truncated_at-same, ending-same, stays-same, tail-none}
 use Rattle.ansi_cells.proofs.TailLemmas.{shown-cell, shown-truncated_at, shown-safe, shown-one_line, shown-closed}
 use Rattle.ansi_cells.proofs.sides.truncate_with.Goals as goal
 
 -- the tail is a cell, closed
 
 pub returns-clause-bytes : goal.returns-clause-bytes
-returns-clause-bytes g c = subst (λ tail. IfOk c.truncate_with_beside.result (λ s. cow_str_bytes s ≡ truncated_at c.args.to.now.side (cell c.args.text.now) c.args.to.now.width tail)) (c.as_str.ensures.value ∙ c.in_ok-tail.ensures.bytes) c.truncate_with_beside.ensures.bytes
+returns-clause-bytes g c =
+    let same = same-cut c.as_str.ensures.value c.in_ok-tail.ensures.bytes in
+    IfOk-weaker c.truncate_with_beside.result _ _ (λ s is. is ∙ truncated_at-same c.args.to.now.side same) c.truncate_with_beside.ensures.bytes
 
 pub returns-clause-safe : goal.returns-clause-safe
 returns-clause-safe g c =
-    let shown = shown-truncated_at c.args.text.now c.utf8.text c.args.to.now.width (closed_cell c.args.to.now.tail.now) (shown-cell c.args.to.now.tail.now c.closed_cell.ensures.utf8) c.args.to.now.side in
+    let shown = shown-truncated_at c.args.text.now c.utf8.text c.args.to.now.width (closed_cell c.args.to.now.tail.now) (shown-cell c.args.to.now.tail.now c.tail_for.ensures.utf8) c.args.to.now.side in
     IfOk-weaker c.truncate_with_beside.result _ _ (λ s is. shown-safe shown is) (returns-clause-bytes g c)
 
 pub returns-clause-one_line : goal.returns-clause-one_line
 returns-clause-one_line g c =
-    let shown = shown-truncated_at c.args.text.now c.utf8.text c.args.to.now.width (closed_cell c.args.to.now.tail.now) (shown-cell c.args.to.now.tail.now c.closed_cell.ensures.utf8) c.args.to.now.side in
+    let shown = shown-truncated_at c.args.text.now c.utf8.text c.args.to.now.width (closed_cell c.args.to.now.tail.now) (shown-cell c.args.to.now.tail.now c.tail_for.ensures.utf8) c.args.to.now.side in
     IfOk-weaker c.truncate_with_beside.result _ _ (λ s is. shown-one_line shown is) (returns-clause-bytes g c)
 
 pub returns-clause-closed : goal.returns-clause-closed
 returns-clause-closed g c =
-    let shown = shown-truncated_at c.args.text.now c.utf8.text c.args.to.now.width (closed_cell c.args.to.now.tail.now) (shown-cell c.args.to.now.tail.now c.closed_cell.ensures.utf8) c.args.to.now.side in
+    let shown = shown-truncated_at c.args.text.now c.utf8.text c.args.to.now.width (closed_cell c.args.to.now.tail.now) (shown-cell c.args.to.now.tail.now c.tail_for.ensures.utf8) c.args.to.now.side in
     IfOk-weaker c.truncate_with_beside.result _ _ (λ s is. shown-closed shown is) (returns-clause-bytes g c)
 
 pub returns-clause-screen : goal.returns-clause-screen
-returns-clause-screen g c = IfOk-weaker c.truncate_with_beside.result _ _ (λ s is. screen-truncated_cell_at c.args.text.now c.utf8.text c.args.to.now.tail.now c.closed_cell.ensures.utf8 c.args.to.now.width c.args.to.now.side is) (returns-clause-bytes g c)
+returns-clause-screen g c = IfOk-weaker c.truncate_with_beside.result _ _ (λ s is. screen-truncated_cell_at c.args.text.now c.utf8.text c.args.to.now.tail.now c.tail_for.ensures.utf8 c.args.to.now.width c.args.to.now.side is) (returns-clause-bytes g c)
 
 pub returns-clause-borrowed : goal.returns-clause-borrowed
 returns-clause-borrowed g c =
-    let t = c.args.text.now in
-    subst (λ tail. IfOk c.truncate_with_beside.result (λ s. IsBorrowedStr s ↔ (KeptStays t c.args.to.now.width tail × IsTrue (is_cut_at_end c.args.to.now.side (cell t) c.args.to.now.width) × (truncated_ending (cell t) c.args.to.now.width tail ≡ [])))) (c.as_str.ensures.value ∙ c.in_ok-tail.ensures.bytes) c.truncate_with_beside.ensures.borrowed
+    let same = same-cut c.as_str.ensures.value c.in_ok-tail.ensures.bytes in
+    let stays = stays-same c.args.text.now same in
+    let ends = ending-same same in
+    IfOk-weaker c.truncate_with_beside.result _ _ (λ s iff. (λ b. (stays.0 (iff.0 b).0, (iff.0 b).1, sym ends ∙ (iff.0 b).2), λ all. iff.1 (stays.1 all.0, all.1, ends ∙ all.2))) c.truncate_with_beside.ensures.borrowed
 
 pub returns-clause-len : goal.returns-clause-len
 returns-clause-len g c =
-    let t = c.args.text.now in
-    subst (λ tail. IfOk c.truncate_with_beside.result (λ s. length (cow_str_bytes s) ≤ 2 * length t + length tail + c.args.to.now.width + 2 * (longest_start_and_close + longest_link_end))) (c.as_str.ensures.value ∙ c.in_ok-tail.ensures.bytes) c.truncate_with_beside.ensures.len
+    let same = same-cut {t = cell c.args.text.now} {width = c.args.to.now.width} c.as_str.ensures.value c.in_ok-tail.ensures.bytes in
+    IfOk-weaker c.truncate_with_beside.result _ _ (λ s most. omega (arith, most, same.len)) c.truncate_with_beside.ensures.len
 
 pub returns-clause-takes_no_memory : goal.returns-clause-takes_no_memory
 returns-clause-takes_no_memory g c =
-    let t = c.args.text.now in
-    λ all. c.truncate_with_beside.ensures.takes_no_memory (subst (λ tail. KeptStays t c.args.to.now.width tail × IsTrue (is_cut_at_end c.args.to.now.side (cell t) c.args.to.now.width) × (truncated_ending (cell t) c.args.to.now.width tail ≡ [])) (sym (c.as_str.ensures.value ∙ c.in_ok-tail.ensures.bytes)) (all.2, all.3, all.4))
+    let same = same-cut c.as_str.ensures.value c.in_ok-tail.ensures.bytes in
+    λ all. c.truncate_with_beside.ensures.takes_no_memory ((stays-same c.args.text.now same).1 all.0, all.1, ending-same same ∙ all.2)
 
 pub returns-in_err-tail-clause-takes_no_memory : goal.returns-in_err-tail-clause-takes_no_memory
-returns-in_err-tail-clause-takes_no_memory g c = λ all. absurd (false≢true (rw c.in_err-tail.was at (c.closed_cell.ensures.takes_no_memory (all.0, all.1))))
+returns-in_err-tail-clause-takes_no_memory g c =
+    λ all. absurd (false≢true (rw c.in_err-tail.was at (c.tail_for.ensures.takes_no_memory (tail-none (cell c.args.text.now) (closed_cell c.args.to.now.tail.now) c.args.to.now.width all.2))))
