@@ -116,11 +116,11 @@ pub trait AnsiColumns: AnsiStr {
     /// end of the text are closed, before the tail. The tail is shown as the text of a cell too, and
     /// what it leaves open is closed after it: `\x1b[2J~` is the tail `~`.
     ///
-    /// Reads what `ansi_fitting` reads. Returns a borrow if nothing of the part that stays has to be
-    /// changed, and nothing has to be written after it. Then it doesn't allocate, unless the tail has
-    /// to be changed. Otherwise the result is at most as long as the text and the shown tail
-    /// together, plus 7 bytes for the link and 88 for the style. `Err` means out of memory.
-    /// (`truncate_str` of `console`; the text of a cell, and closing links and styles, own.)
+    /// Reads what `ansi_fitting` reads. Returns a borrow, and doesn't allocate, if nothing of the
+    /// part that stays has to be changed, and nothing has to be written after it. Otherwise the
+    /// result is at most as long as the text and the shown tail together, plus 7 bytes for the link
+    /// and 88 for the style. `Err` means out of memory. (`truncate_str` of `console`; the text of a
+    /// cell, and closing links and styles, own.)
     ///
     /// ```
     /// let cut = "\x1b[31m日本\t語\x1b[39m".ansi_truncate(rt.alloc(), 6, "…")?;
@@ -145,8 +145,7 @@ pub trait AnsiColumns: AnsiStr {
         ensures len { IfOk result (λ c. length (cow_str_bytes c)
             ≤ length (Self.text self.now) + length (closed_cell tail.now)
             + longest_link_end + longest_close) }
-        ensures takes_no_memory { (cell tail.now ≡ tail.now) × (closing (cell tail.now) ≡ [])
-            × KeptStays (Self.text self.now) width (closed_cell tail.now)
+        ensures takes_no_memory { KeptStays (Self.text self.now) width (closed_cell tail.now)
             × (truncated_ending (cell (Self.text self.now)) width (closed_cell tail.now) ≡ []) →
             IsOk result }
     {
@@ -197,11 +196,10 @@ pub trait AnsiColumns: AnsiStr {
     /// The text of a table's cell: truncated to `width` columns, as `ansi_truncate` does it, and then
     /// padded to them, as `ansi_pad` does it.
     ///
-    /// Returns a borrow if nothing of the part that stays has to be changed, no tail and no blank is
-    /// needed, and nothing is open. Then it doesn't allocate, unless the tail has to be changed.
-    /// Otherwise the result is at most as long as the text and the shown tail together, plus one
-    /// byte for each missing column, 14 for links and 176 for styles. `Err` means out of memory.
-    /// (Own.)
+    /// Returns a borrow, and doesn't allocate, if nothing of the part that stays has to be changed,
+    /// no tail and no blank is needed, and nothing is open. Otherwise the result is at most as long
+    /// as the text and the shown tail together, plus one byte for each missing column, 14 for links
+    /// and 176 for styles. `Err` means out of memory. (Own.)
     ///
     /// ```
     /// let cell = "\x1b[41mab".ansi_fit(rt.alloc(), 4, Alignment::Left, "…")?;
@@ -232,8 +230,7 @@ pub trait AnsiColumns: AnsiStr {
             ≤ length (Self.text self.now) + length (closed_cell tail.now)
             + missing (truncated (cell (Self.text self.now)) width (closed_cell tail.now)) width
             + 2 * (longest_link_end + longest_close)) }
-        ensures takes_no_memory { (cell tail.now ≡ tail.now) × (closing (cell tail.now) ≡ [])
-            × KeptStays (Self.text self.now) width (closed_cell tail.now)
+        ensures takes_no_memory { KeptStays (Self.text self.now) width (closed_cell tail.now)
             × (truncated_ending (cell (Self.text self.now)) width (closed_cell tail.now) ≡ [])
             × (missing (truncated (cell (Self.text self.now)) width (closed_cell tail.now)) width ≡ 0)
             × (closing (truncated (cell (Self.text self.now)) width (closed_cell tail.now)) ≡ []) →
@@ -248,11 +245,11 @@ pub trait AnsiColumns: AnsiStr {
     /// its first and last columns stay, as `ansi_slice` takes them, with the tail between them: as
     /// many as the tail leaves of the width. A tail wider than the width is left out.
     ///
-    /// Returns a borrow if the text isn't cut at its start or in its middle, nothing of the part that
-    /// stays has to be changed, and nothing has to be written after it. Then it doesn't allocate,
-    /// unless the tail has to be changed. Otherwise the result is at most twice as long as the text,
-    /// plus the length of the shown tail, one byte for each column of the width, 502 for styles and
-    /// 14 for links. `Err` means out of memory. (`cli-truncate`; the text of a cell, and opening and closing, own.)
+    /// Returns a borrow, and doesn't allocate, if the text isn't cut at its start or in its middle,
+    /// nothing of the part that stays has to be changed, and nothing has to be written after it.
+    /// Otherwise the result is at most twice as long as the text, plus the length of the shown tail,
+    /// one byte for each column of the width, 502 for styles and 14 for links. `Err` means out of
+    /// memory. (`cli-truncate`; the text of a cell, and opening and closing, own.)
     ///
     /// ```
     /// let to = Truncation::to(8).tail("…").side(Side::Middle);
@@ -280,9 +277,7 @@ pub trait AnsiColumns: AnsiStr {
         ensures len { IfOk result (λ c. length (cow_str_bytes c)
             ≤ 2 * length (Self.text self.now) + length (closed_cell to.now.tail.now) + to.now.width
             + 2 * (longest_start_and_close + longest_link_end)) }
-        ensures takes_no_memory { (cell to.now.tail.now ≡ to.now.tail.now)
-            × (closing (cell to.now.tail.now) ≡ [])
-            × KeptStays (Self.text self.now) to.now.width (closed_cell to.now.tail.now)
+        ensures takes_no_memory { KeptStays (Self.text self.now) to.now.width (closed_cell to.now.tail.now)
             × IsTrue (is_cut_at_end to.now.side (cell (Self.text self.now)) to.now.width)
             × (truncated_ending (cell (Self.text self.now)) to.now.width
             (closed_cell to.now.tail.now) ≡ []) → IsOk result }
