@@ -1,5 +1,5 @@
 -- What edits by columns make of a text in turn, and what that shows.
-use Rattle.std.proofs.Common.{◌≡◌, ℕ, ◌<◌, ◌≤◌, ◌⊎◌, inl, inr, Bool, true, false, not, ◌-◌, ◌↔◌, ◌==◌, ◌&&◌, ◌||◌, List, [], ◌∷◌, length, get_or, take, drop, Result, Ok, Err, IfOk, chars, unwrap_or, IsTrue, refl, sym, ◌∙◌, ap, subst, arith, if◌then◌else◌}
+use Rattle.std.proofs.Common.{◌≡◌, ℕ, ◌+◌, ◌<◌, ◌≤◌, ◌⊎◌, inl, inr, Bool, true, false, not, ◌-◌, ◌↔◌, ◌==◌, ◌&&◌, ◌||◌, List, [], ◌∷◌, length, get_or, take, drop, Result, Ok, Err, IfOk, chars, unwrap_or, IsTrue, refl, sym, ◌∙◌, ap, subst, arith, if◌then◌else◌}
 use Rattle.std.specs.List.{list_all, list_any}
 use Rattle.std.specs.Str.{IsUtf8, byte}
 use Rattle.std.proofs.lemmas.Bool.{and_from, and_parts, or_from, false≢true}
@@ -16,15 +16,13 @@ use Rattle.ansi_safe.proofs.CellLemmas.{plain_of-merged}
 use Rattle.ansi_safe.proofs.CellTextLemmas.{cell-stays, IsUtf8-cell, whole-cell}
 use Rattle.ansi_safe.proofs.SafeLemmas.{AreGood, good_stand}
 use Rattle.ansi_columns.specs.declared.edits.ColumnEdit.{ColumnEdit}
-use Rattle.ansi_cells.specs.declared.shown.Alignment.TheVariants.{Left}
 use Rattle.ansi_clusters.specs.Columns.{columns}
-use Rattle.ansi_columns.specs.Edits.{Change, change_of, changes_of, IsLent, AreLent, Expanded, Sliced, Truncated, Padded, Fitted, HasUtf8Tail, is_expansion, changed, changed_in_turn, only_expand, edited, changed_row, row_in_turn, edited_row}
+use Rattle.ansi_columns.specs.Edits.{Change, change_of, changes_of, IsLent, AreLent, Expanded, Sliced, Truncated, Padded, Fitted, HasUtf8Tail, is_expansion, changed, changed_in_turn, only_expand, edited, most_added, most_added_in_turn, changed_row, row_in_turn, edited_row}
 use Rattle.ansi_cells.specs.Rows.{row, cell_row, row_screen, truncated_row_at, fitted_row}
 use Rattle.ansi_cells.specs.Screens.{screen}
 use Rattle.ansi_cells.specs.Shown.{closed_cell}
 use Rattle.ansi_cells.specs.Tabs.{piece_has_tab, expanded}
 use Rattle.ansi_cells.proofs.CleanShownLemmas.{clean-padded_cell, clean-sliced_cell}
-use Rattle.ansi_cells.proofs.IndentLemmas.{padded-closed_alone}
 use Rattle.ansi_cells.proofs.IndentLawLemmas.{shut-cell}
 use Rattle.ansi_cells.proofs.LinkedLawLemmas.{padded-whole}
 use Rattle.ansi_cells.proofs.OneLineLemmas.{Prints, Prints-parts, printing_are_allowed, IsClean, clean-safe, clean-one_line, safe_are_good}
@@ -192,6 +190,18 @@ lent-next {all} {b} {c} u {v} {left} {more} {next} split made lends so_far =
       λ is. (let parts = before.1 is in let lent = second parts in (lends.1 (first parts, first lent), subst (AreLent (changes_of more)) (sym made) (second lent))),
     )
 
+-- what is lent by all is lent by the next one
+pub lent-first : {all b : Type 0} (u : List ℕ) {left more : List ColumnEdit} {next : ColumnEdit} → left ≡ next ∷ more → (b × AreLent (changes_of left) u) ↔ all → all → b × IsLent (change_of next) u
+lent-first {all} {b} u split so_far is =
+    let parts = (subst (λ es. (b × AreLent (changes_of es) u) ↔ all) split so_far).1 is in
+    (first parts, first (second parts))
+
+-- and how long it is at most
+pub len-next : {n : ℕ} (u : List ℕ) {v : List ℕ} {left more : List ColumnEdit} {next : ColumnEdit} → left ≡ next ∷ more → v ≡ changed (change_of next) u → length v ≤ length u + most_added (change_of next) u
+    → length u + most_added_in_turn (changes_of left) u ≤ n → length v + most_added_in_turn (changes_of more) v ≤ n
+len-next u {v} {left} {more} {next} split made most so_far =
+    omega (arith, most, so_far, ap (λ es. most_added_in_turn (changes_of es) u) split, ap (most_added_in_turn (changes_of more)) made)
+
 -- ---- no change is left
 
 -- as the code tests it
@@ -219,11 +229,8 @@ module _ (changes : List Change) (t u : List ℕ) (editing : IsEditing changes t
     pub ended-screen : screen u ≡ row_screen (edited_row changes t)
     ended-screen = screen-row u ∙ ap row_screen (sym (cell_row-shown u ended-shown) ∙ editing.shows)
 
-  -- each was one, and then the text is padded to no column, which closes it
-  module _ (only : only_expand changes ≡ true) {v : List ℕ} (made : v ≡ changed (Padded 0 Left) u) where
-    closes : v ≡ closed_cell u
-    closes = made ∙ padded-closed_alone (cell u)
-
+  -- each was one, and then the text is closed
+  module _ (only : only_expand changes ≡ true) {v : List ℕ} (closes : v ≡ closed_cell u) where
     pub closed-bytes : v ≡ edited changes t
     closed-bytes = closes ∙ ap closed_cell editing.bytes ∙ sym (ap (λ b. if b then closed_cell (changed_in_turn changes t) else changed_in_turn changes t) only)
 
@@ -242,3 +249,7 @@ only-editing changes t u bytes row only = record { bytes = bytes; shows = row; k
 pub lent-ended : {b all : Type 0} (u : List ℕ) (left : List ColumnEdit) → length left < 1 → ((b × AreLent (changes_of left) u) ↔ all) → b ↔ all
 lent-ended u [] short lent = (λ is. lent.0 (is, tt), λ is. (lent.1 is).0)
 lent-ended u (e ∷ es) short lent = absurd (omega (arith, short))
+
+pub len-ended : {n : ℕ} (u : List ℕ) (left : List ColumnEdit) → length left < 1 → length u + most_added_in_turn (changes_of left) u ≤ n → length u ≤ n
+len-ended u [] short most = omega (arith, most)
+len-ended u (e ∷ es) short most = absurd (omega (arith, short))

@@ -1,8 +1,10 @@
 -- Edits of a text by columns: what each makes of it, what several make of it in turn, and what that shows.
-use Rattle.std.specs.Prelude.{◌≡◌, ℕ, Bool, true, false, List, [], ◌∷◌, Option, map, fold, ⊤, IsTrue, IsFalse, if◌then◌else◌}
+use Rattle.std.specs.Prelude.{◌≡◌, ℕ, ◌+◌, ◌*◌, Bool, true, false, List, [], ◌∷◌, length, Option, map, fold, ⊤, IsTrue, IsFalse, if◌then◌else◌}
 use Rattle.std.specs.List.{list_all}
 use Rattle.std.specs.Str.{IsUtf8}
+use Rattle.ansi_style.specs.Written.{longest_close, longest_start_and_close}
 use Rattle.ansi_safe.specs.Cells.{cell}
+use Rattle.ansi_safe.specs.Links.{longest_link_end}
 use Rattle.ansi_columns.specs.declared.edits.ColumnEdit.{ColumnEdit}
 use Rattle.ansi_columns.specs.declared.edits.ColumnEdit.TheVariants as edit
 use Rattle.ansi_cells.specs.declared.shown.Alignment.{Alignment}
@@ -11,8 +13,8 @@ use Rattle.ansi_cells.specs.Fitted.{fitted}
 use Rattle.ansi_cells.specs.Rows.{Row, cell_row, truncated_row_at, padded_row, fitted_row, sliced_row}
 use Rattle.ansi_cells.specs.Shown.{truncated, truncated_ending, padded, missing, closing, closed_cell, KeptStays}
 use Rattle.ansi_cells.specs.Sides.{is_cut_at_end, truncated_at}
-use Rattle.ansi_cells.specs.Slices.{sliced, is_sliced_stretch}
-use Rattle.ansi_cells.specs.Tabs.{has_tab, expanded}
+use Rattle.ansi_cells.specs.Slices.{sliced, sliced_blanks, is_sliced_stretch}
+use Rattle.ansi_cells.specs.Tabs.{has_tab, tabs, expanded}
 
 -- an edit by columns, with its numbers and the bytes of its tail
 pub data Change : Type 0 where
@@ -110,3 +112,19 @@ IsLentCell t = (cell t ≡ t) × (closing (cell t) ≡ [])
 -- the edited text is lent by t
 abbrev pub IsLentEdited : List Change → List ℕ → Type 0
 IsLentEdited changes t = AreLent changes t × (IsTrue (only_expand changes) → IsLentCell (changed_in_turn changes t))
+
+-- How long an edited text is at most.
+
+-- how many bytes longer than the text t is what a change makes of it at most, as the call of its name has it
+abbrev pub most_added : Change → List ℕ → ℕ
+most_added (Expanded stop) t = stop * tabs t
+most_added (Sliced start end) t = sliced_blanks (cell t) start end + longest_start_and_close + longest_link_end
+most_added (Truncated side width tail) t = length t + length (closed_cell tail) + width + 2 * (longest_start_and_close + longest_link_end)
+most_added (Padded width alignment) t = missing (cell t) width + longest_link_end + longest_close
+most_added (Fitted width alignment tail) t =
+    length (closed_cell tail) + missing (truncated (cell t) width (closed_cell tail)) width + 2 * (longest_link_end + longest_close)
+
+-- the sum of what each of several changes adds at most to what the one before made
+abbrev pub most_added_in_turn : List Change → List ℕ → ℕ
+most_added_in_turn [] t = 0
+most_added_in_turn (change ∷ changes) t = most_added change t + most_added_in_turn changes (changed change t)

@@ -1,18 +1,22 @@
 //! Edits of a text by columns, one after another.
-ghost use Rattle.std.specs.Prelude.{◌≡◌, ◌↔◌, false, not, List, map, All, IfOk, IsTrue, IsFalse};
+ghost use Rattle.std.specs.Prelude.{◌≡◌, ◌↔◌, ◌+◌, ◌≤◌, false, not, List, length, map, All};
+ghost use Rattle.std.specs.Prelude.{IfOk, IsOk, IsTrue, IsFalse};
 ghost use Rattle.std.specs.Cow.{cow_str_bytes, IsBorrowedStr};
 ghost use Rattle.std.specs.List.{list_all};
 ghost use Rattle.std.specs.Str.{IsUtf8};
-ghost use Rattle.ansi_safe.specs.Links.{IsClosed};
+ghost use Rattle.ansi_style.specs.Written.{longest_close};
+ghost use Rattle.ansi_safe.specs.Links.{longest_link_end, IsClosed};
 ghost use Rattle.ansi_safe.specs.Safe.{is_safe};
 ghost use Rattle.ansi_safe.specs.declared.policy.Links.TheVariants.{Keep};
 ghost use Rattle.ansi_columns.specs.Edits.{change_of, changes_of, only_expand, HasUtf8Tail};
 ghost use Rattle.ansi_columns.specs.Edits.{changed, changed_in_turn, edited, edited_row};
-ghost use Rattle.ansi_columns.specs.Edits.{IsLent, AreLent, IsLentEdited};
+ghost use Rattle.ansi_columns.specs.Edits.{IsLent, AreLent, IsLentCell, IsLentEdited};
+ghost use Rattle.ansi_columns.specs.Edits.{most_added, most_added_in_turn};
 ghost use Rattle.ansi_cells.specs.Indents.{wrapped_with, IsWrappedWith};
 ghost use Rattle.ansi_cells.specs.OneLine.{is_one_line};
 ghost use Rattle.ansi_cells.specs.Rows.{cell_row, row_screen, indented_screens};
 ghost use Rattle.ansi_cells.specs.Screens.{screen};
+ghost use Rattle.ansi_cells.specs.Shown.{closed_cell};
 ghost use Rattle.ansi_cells.specs.Wrapped.{CarriedPart};
 
 use ansi_cells::fit::fit;
@@ -70,8 +74,10 @@ pub enum ColumnEdit<'a> {
 /// closed; after any edit but an expansion it is that already. So without an edit the result is the
 /// text of a cell, closed. What is shown is what the edits make of the text's columns.
 ///
-/// Returns a borrow if each edit leaves a stretch of the text as it is, and nothing has to be left
-/// out or closed. `Err` means out of memory. (Own.)
+/// Returns a borrow, and doesn't allocate, if each edit leaves a stretch of the text as it is, and
+/// nothing has to be left out or closed. Otherwise the result is at most as long as the text, plus
+/// what each edit adds at most, and 95 bytes for a link and a style that were only expanded. `Err`
+/// means out of memory. (Own.)
 ///
 /// ```
 /// let cut = ColumnEdit::Truncate {
@@ -100,17 +106,43 @@ pub fn edit_columns<'t, A: Allocator + Copy>(
         ≡ row_screen (edited_row (changes_of edits.now) text.now)) }
     ensures borrowed { IfOk result (λ c.
         IsBorrowedStr c ↔ IsLentEdited (changes_of edits.now) text.now) }
+    ensures len { IfOk result (λ c. length (cow_str_bytes c) ≤ length text.now
+        + most_added_in_turn (changes_of edits.now) text.now + longest_link_end + longest_close) }
+    ensures takes_no_memory { IsLentEdited (changes_of edits.now) text.now → IsOk result }
 {
     let edited = edit_in_turn(alloc, CowStr::Borrowed(text), edits)?;
     if only_expand(edits) {
-        // It isn't too narrow, so its link and its style are closed, and it gets no blanks.
-        let close = ColumnEdit::Pad {
-            width: 0,
-            alignment: Alignment::Left,
-        };
-        return edit_column(alloc, &close, edited);
+        return close_cell(alloc, edited);
     }
     Ok(edited)
+}
+
+/// The text of a cell, closed, as [`edit_columns`] makes it after expansions alone. An owned text that
+/// stays is passed on. `Err` means out of memory. (Own.)
+///
+/// ```
+/// let closed = close_cell(rt.alloc(), CowStr::Borrowed("\x1b[1ma\x07"))?;
+/// assert!(rt; closed.as_str() == "\x1b[1ma\x1b[22m");
+/// ```
+pub fn close_cell<'t, A: Allocator + Copy>(
+    alloc: A,
+    text: CowStr<'t, A>,
+) -> Result<CowStr<'t, A>, AllocError>
+    ensures bytes { IfOk result (λ c. cow_str_bytes c ≡ closed_cell (cow_str_bytes text.entry)) }
+    ensures utf8 { IfOk result (λ c. IsUtf8 (cow_str_bytes text.entry)) }
+    ensures borrowed { IfOk result (λ c. IsBorrowedStr c ↔ (IsBorrowedStr text.entry
+        × IsLentCell (cow_str_bytes text.entry))) }
+    ensures len { IfOk result (λ c. length (cow_str_bytes c)
+        ≤ length (cow_str_bytes text.entry) + longest_link_end + longest_close) }
+    ensures takes_no_memory { IsBorrowedStr text.entry
+        × IsLentCell (cow_str_bytes text.entry) → IsOk result }
+{
+    // It isn't too narrow, so its link and its style are closed, and it gets no blanks.
+    let close = ColumnEdit::Pad {
+        width: 0,
+        alignment: Alignment::Left,
+    };
+    edit_column(alloc, &close, text)
 }
 
 /// The lines of the text after the edits in turn, wrapped at a width, with indents.
@@ -121,8 +153,9 @@ pub fn edit_columns<'t, A: Allocator + Copy>(
 /// are those of `wrap_with`.
 ///
 /// The lines may borrow from the text and live as long as it. If some edit doesn't leave a stretch of
-/// the text as it is, each line is owned. `Err` means out of memory for an edit; a line may be an
-/// `Err` too. (Own.)
+/// the text as it is, each line is owned. What is wrapped is at most as long as the text, plus what each
+/// edit adds at most. `Err` means out of memory for an edit; if each edit leaves a stretch, the call
+/// doesn't allocate. A line may be an `Err` too. (Own.)
 ///
 /// ```
 /// let slice = ColumnEdit::Slice {
@@ -160,6 +193,9 @@ pub fn edit_and_wrap<'t, 'a, A: Allocator + Copy>(
         to.now.first_indent.now to.now.indent.now) }
     ensures owned { (AreLent (changes_of edits.now) text.now → ⊥) → IfOk result (λ lines.
         IsTrue (list_all (λ l. not l.borrowed) lines)) }
+    ensures len { IfOk result (λ lines. length (changed_in_turn (changes_of edits.now) text.now)
+        ≤ length text.now + most_added_in_turn (changes_of edits.now) text.now) }
+    ensures takes_no_memory { AreLent (changes_of edits.now) text.now → IsOk result }
 {
     let made = edit_in_turn(alloc, CowStr::Borrowed(text), edits)?;
     Ok(wrap_edited(alloc, made, to))
@@ -168,8 +204,9 @@ pub fn edit_and_wrap<'t, 'a, A: Allocator + Copy>(
 /// What edits make of a text in turn. Unlike the result of [`edit_columns`], a text that is only
 /// expanded may have anything still.
 ///
-/// Returns a borrow if the text is one and each edit leaves a stretch of it as it is; an owned text
-/// that stays is passed on. `Err` means out of memory. (Own.)
+/// Returns a borrow, and doesn't allocate, if the text is one and each edit leaves a stretch of it as
+/// it is; an owned text that stays is passed on. Otherwise the result is at most as long as the text,
+/// plus what each edit adds at most. `Err` means out of memory. (Own.)
 pub fn edit_in_turn<'t, A: Allocator + Copy>(
     alloc: A,
     text: CowStr<'t, A>,
@@ -190,6 +227,10 @@ pub fn edit_in_turn<'t, A: Allocator + Copy>(
         ≡ row_screen (edited_row (changes_of edits.now) (cow_str_bytes text.entry))) }
     ensures borrowed { IfOk result (λ c. IsBorrowedStr c ↔ (IsBorrowedStr text.entry
         × AreLent (changes_of edits.now) (cow_str_bytes text.entry))) }
+    ensures len { IfOk result (λ c. length (cow_str_bytes c) ≤ length (cow_str_bytes text.entry)
+        + most_added_in_turn (changes_of edits.now) (cow_str_bytes text.entry)) }
+    ensures takes_no_memory { IsBorrowedStr text.entry
+        × AreLent (changes_of edits.now) (cow_str_bytes text.entry) → IsOk result }
 {
     let mut edited = text;
     let mut left = edits;
@@ -214,9 +255,17 @@ fn only_expand(edits: &[ColumnEdit<'_>]) -> bool
     true
 }
 
-/// What an edit makes of a text. Returns a borrow if the text is one and the edit leaves a stretch of
-/// it as it is; an owned text that stays is passed on. `Err` means out of memory. (Own.)
-fn edit_column<'t, A: Allocator + Copy>(
+/// What one edit makes of a text. [`edit_in_turn`] and the calls for other languages make each edit by
+/// it.
+///
+/// Returns a borrow, and doesn't allocate, if the text is one and the edit leaves a stretch of it as it
+/// is; an owned text that stays is passed on. `Err` means out of memory. (Own.)
+///
+/// ```
+/// let expanded = edit_column(rt.alloc(), &ColumnEdit::Expand(4), CowStr::Borrowed("a\tb"))?;
+/// assert!(rt; expanded.as_str() == "a   b");
+/// ```
+pub fn edit_column<'t, A: Allocator + Copy>(
     alloc: A,
     edit: &ColumnEdit<'_>,
     text: CowStr<'t, A>,
@@ -225,6 +274,10 @@ fn edit_column<'t, A: Allocator + Copy>(
         cow_str_bytes c ≡ changed (change_of edit.now) (cow_str_bytes text.entry)) }
     ensures borrowed { IfOk result (λ c. IsBorrowedStr c ↔ (IsBorrowedStr text.entry
         × IsLent (change_of edit.now) (cow_str_bytes text.entry))) }
+    ensures len { IfOk result (λ c. length (cow_str_bytes c) ≤ length (cow_str_bytes text.entry)
+        + most_added (change_of edit.now) (cow_str_bytes text.entry)) }
+    ensures takes_no_memory { IsBorrowedStr text.entry
+        × IsLent (change_of edit.now) (cow_str_bytes text.entry) → IsOk result }
     ensures utf8 { IfOk result (λ c. IsUtf8 (cow_str_bytes text.entry)
         × HasUtf8Tail (change_of edit.now)) }
 {
@@ -250,6 +303,9 @@ fn edit_text<'t, A: Allocator + Copy>(
         cow_str_bytes c ≡ changed (change_of edit.now) text.now) }
     ensures borrowed { IfOk result (λ c.
         IsBorrowedStr c ↔ IsLent (change_of edit.now) text.now) }
+    ensures len { IfOk result (λ c. length (cow_str_bytes c)
+        ≤ length text.now + most_added (change_of edit.now) text.now) }
+    ensures takes_no_memory { IsLent (change_of edit.now) text.now → IsOk result }
     ensures utf8 { IfOk result (λ c. IsUtf8 text.now × HasUtf8Tail (change_of edit.now)) }
 {
     match edit {

@@ -1,16 +1,17 @@
 //! The examples of the docs of `ansi_columns`, in the same words.
 use ansi_columns::addresses::link_at;
 use ansi_columns::bare::{missing_bare, truncate_bare};
-use ansi_columns::edits::{edit_and_wrap, edit_columns};
+use ansi_columns::edits::{close_cell, edit_and_wrap, edit_column, edit_columns};
 use ansi_columns::fit::{fit, fit_shown};
 use ansi_columns::lines::Lines;
-use ansi_columns::shown::{closed_cell, join, pad, pad_shown, truncate, truncate_shown};
+use ansi_columns::shown::{closed_cell, join, pad, pad_shown, tail_for, truncate, truncate_shown};
 use ansi_columns::sides::truncate_with;
 use ansi_columns::slices::{Sliced, slice, slice_shown};
 use ansi_columns::tabs::expand_tabs;
 use ansi_columns::wrap::indents::wrap_with;
 use ansi_columns::wrap::{has_next, only_line, wrap};
 use ansi_columns::{Alignment, AnsiColumns, ColumnEdit, Side, Truncation, Wrap};
+use std::borrow::CowStr;
 use std::test::Fail;
 
 #[test]
@@ -114,6 +115,20 @@ fn edit_columns_example(rt: HostRuntime) -> Result<(), Fail> {
     };
     let cell = edit_columns(rt.alloc(), "\x1b[31m日本語\x1b[39m", &[cut, pad])?;
     assert!(rt; cell.as_str() == "   \x1b[31m日\x1b[39m…");
+    Ok(())
+}
+
+#[test]
+fn close_cell_example(rt: HostRuntime) -> Result<(), Fail> {
+    let closed = close_cell(rt.alloc(), CowStr::Borrowed("\x1b[1ma\x07"))?;
+    assert!(rt; closed.as_str() == "\x1b[1ma\x1b[22m");
+    Ok(())
+}
+
+#[test]
+fn edit_column_example(rt: HostRuntime) -> Result<(), Fail> {
+    let expanded = edit_column(rt.alloc(), &ColumnEdit::Expand(4), CowStr::Borrowed("a\tb"))?;
+    assert!(rt; expanded.as_str() == "a   b");
     Ok(())
 }
 
@@ -271,6 +286,13 @@ fn missing_bare_example(rt: HostRuntime) {
 #[test]
 fn closed_cell_example(rt: HostRuntime) -> Result<(), Fail> {
     assert!(rt; closed_cell(rt.alloc(), "\x1b[1m~\x07")?.as_str() == "\x1b[1m~\x1b[22m");
+    Ok(())
+}
+
+#[test]
+fn tail_for_example(rt: HostRuntime) -> Result<(), Fail> {
+    assert!(rt; tail_for(rt.alloc(), "connection", 5, "\t~")?.as_str() == " ~");
+    assert!(rt; tail_for(rt.alloc(), "disk", 5, "\t~")?.as_str() == "");
     Ok(())
 }
 
