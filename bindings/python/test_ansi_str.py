@@ -703,6 +703,17 @@ class Private(unittest.TestCase):
                 with self.assertRaises(TypeError, msg=name):
                     call(*words)
 
+    def test_a_text_that_is_not_utf8_is_let_go_once(self):
+        library, data = ansi_str._library, b"\xff\x1b[1mabc"
+        for call in (lambda: library.restyle(data, False, ((0, 1),), b"1"), lambda: library.replace_each(data, False, ((0, 1, b"b"),)),
+                     lambda: library.walk_lines(data, False, 1), lambda: library.matches(data, False, b"a"), lambda: library.links(data, False),
+                     lambda: library.edit(data, False, ((0, 0, 1, b""),)), lambda: library.tell(5, data, False, b"a", 0)):
+            for _ in range(50):
+                self.assertRaises(ValueError, call)
+            # (what is let go twice would be given out twice)
+            blocks = [bytes(size) for size in range(2, 480) for _ in range(50)]
+            self.assertEqual(len(set(map(id, blocks))), len(blocks))
+
     def test_huge_numbers(self):
         edit, tell = ansi_str._library.edit, ansi_str._library.tell
         for huge in HUGE:

@@ -159,7 +159,8 @@ static bool changes_matches(uint32_t kind) {
     return kind == MARK || kind == REPLACE_ALL;
 }
 
-/* Makes the text of a step, whose positions count bytes. Returns false with an error set, or with none if the step is refused. */
+/* Makes the text of a step, whose positions count bytes. Returns false with an error set, or with none if the step is refused: then
+   `made` is unchanged. */
 static bool make_step(const Text *text, const Step *step, Text *made) {
     /* (what a mark, a range and a new text write is most often shorter than this) */
     size_t more = changes_matches(step->edit.kind) ? text->size + step->with.size : 48 * step->ranges_len + step->edit.pattern_len;
@@ -167,16 +168,18 @@ static bool make_step(const Text *text, const Step *step, Text *made) {
     ansi_str_answer answer;
     do {
         PyThreadState *thread;
+        Text written;
         PyObject *room = PyBytes_FromStringAndSize(NULL, (Py_ssize_t)size);
         if (room == NULL) {
             return false;
         }
-        *made = text_of(room);
+        written = text_of(room);
         thread = let_others_run(text->size);
-        answer = write_step(text, step, made);
+        answer = write_step(text, step, &written);
         run_alone(thread);
-        made->size = size = answer.len;
+        written.size = size = answer.len;
         if (answer.status == ANSI_STR_OK) {
+            *made = written;
             return true;
         }
         Py_DecRef(room);
