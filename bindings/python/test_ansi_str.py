@@ -6,6 +6,7 @@ import doctest
 import importlib.util
 import inspect
 import os
+import pickle
 import pydoc
 import random
 import re
@@ -610,10 +611,6 @@ class Arguments(unittest.TestCase):
             def __len__(self):
                 return 1
 
-        def made(call, *arguments):
-            got = call(*arguments)
-            return list(got) if isinstance(got, Iterator) else got
-
         for text in ("a", "a,\xe9", "\x1b[1m\xe9, b\x1b[0m"):
             for name, more in CALLS.items():
                 call = getattr(ansi_str, name)
@@ -631,115 +628,133 @@ class Arguments(unittest.TestCase):
 
     @unittest.skipIf(sys.version_info < (3, 8), "this Python has no Literal")
     def test_the_types_of_words(self):
-        for call in (ansi_str.pad, ansi_str.fit):
-            alignment = typing.get_type_hints(call)["alignment"]
-            self.assertEqual(alignment, ansi_str.Alignment)
-            self.assertEqual(alignment.__args__, ansi_str.ALIGNMENTS)
-        side = typing.get_type_hints(ansi_str.truncate)["side"]
-        self.assertEqual(side, ansi_str.Side)
-        self.assertEqual(side.__args__, ansi_str.SIDES)
+        self.assertEqual(ansi_str.Alignment.__args__, ansi_str.ALIGNMENTS)
+        self.assertEqual(ansi_str.Side.__args__, ansi_str.SIDES)
 
 
-class Private(unittest.TestCase):
-    """The calls of the module in C: a wrong argument is refused, and never taken for what it isn't."""
+def made(call, *arguments, **options):
+    """What a call returns, as a list if it is an iterator."""
+    got = call(*arguments, **options)
+    return list(got) if isinstance(got, Iterator) else got
 
-    TYPES = [None, 1.5, "a", [], {}, object(), bytearray(b"a")]
-    # wrong arguments by what is wanted, and what each raises
-    WRONG = {
-        "bytes": [(b"\xff", ValueError)] + [(wrong, TypeError) for wrong in TYPES + [1, ()]],
-        "number": [(-1, ValueError), (-2**64, ValueError)] + [(wrong, TypeError) for wrong in TYPES + [b"a", ()]],
-        "kind": [(-1, ValueError), (21, ValueError), (2**31 - 1, ValueError), (2**31, OverflowError), (-2**200, OverflowError)]
-                + [(wrong, TypeError) for wrong in TYPES + [b"a", ()]],
-        "steps": [(wrong, TypeError) for wrong in TYPES + [b"a", 1, (1,), ((),), ((0, 0, 0),), ((0, 0, 0, b"", 0),), ([0, 0, 0, b""],)]],
-        "ranges": [(wrong, TypeError) for wrong in TYPES + [b"a", 1, (1,), ((),), ((0,),), ((0, 1, 2),), ([0, 1],), ((None, 1),), ((0, "a"),)]]
-                  + [(wrong, ValueError) for wrong in (((-1, 1),), ((0, -1),), ((1, 0),), ((0, 1), (0, 1)))],
-        "replacements": [(wrong, TypeError) for wrong in TYPES + [b"a", 1, (1,), ((),), ((0, 1),), ((0, 1, b"", 2),), ([0, 1, b""],), ((None, 1, b""),),
-                                                                  ((0, 1, "a"),), ((0, 1, None),), ((0, 1, bytearray(b"a")),)]]
-                        + [(wrong, ValueError) for wrong in (((-1, 1, b""),), ((1, 0, b""),), ((0, 1, b""), (0, 1, b"")), ((0, 1, b"\xff"),))],
-        "bool": [],
-    }
-    # good arguments of each call
-    GOOD = {
-        "edit": [("bytes", b"a"), ("bool", True), ("steps", ((0, 0, 1, b""),))],
-        "tell": [("kind", 5), ("bytes", b"a"), ("bool", True), ("bytes", b"a"), ("number", 1)],
-        "walk": [("bytes", b"a"), ("bytes", b"a")],
-        "strip": [("bytes", b"a")],
-        "wrap": [("bytes", b"a"), ("number", 1), ("bytes", b"a"), ("bytes", b"a")],
-        "walk_lines": [("bytes", b"a"), ("bool", True), ("number", 1)],
-        "mark": [("bytes", b"a"), ("bytes", b"a"), ("bytes", b"1")],
-        "restyle": [("bytes", b"a"), ("bool", True), ("ranges", ((0, 1),)), ("bytes", b"1")],
-        "matches": [("bytes", b"a"), ("bool", True), ("bytes", b"a")],
-        "replace_all": [("bytes", b"a"), ("bytes", b"a"), ("bytes", b"b")],
-        "replace_each": [("bytes", b"a"), ("bool", True), ("replacements", ((0, 1, b"b"),))],
-        "links": [("bytes", b"a"), ("bool", True)],
-    }
 
-    def refused(self, call, given):
-        """The call with each argument in turn replaced by each wrong one."""
-        good = [value for _, value in given]
-        call(*good)
-        for index, (kind, _) in enumerate(given):
-            for wrong, error in self.WRONG[kind]:
-                with self.assertRaises(error, msg=(index, wrong)):
-                    call(*good[:index], wrong, *good[index + 1:])
+class Module(unittest.TestCase):
+    """The calls as functions of the module in C."""
 
-    def test_wrong_arguments(self):
-        calls = {name for name in dir(ansi_str._library) if not name.startswith("_")}
-        self.assertEqual(calls, set(self.GOOD))
-        for name, given in self.GOOD.items():
-            self.refused(getattr(ansi_str._library, name), given)
-        edit = ansi_str._library.edit
-        for kind in range(21):
-            self.refused(lambda *step: edit(b"a", True, (step + (b"",),)), [("kind", kind), ("number", 0), ("number", 1)])
-        # (the others don't read their pattern)
-        for kind in (*range(9), 15, 16):
-            self.refused(lambda pattern: edit(b"a", True, ((kind, 0, 1, pattern),)), [("bytes", b"")])
+    def python_of(self, name):
+        """A function of Python with the same signature, which does nothing."""
+        made = {}
+        exec("def %s%s: pass" % (name, inspect.signature(getattr(ansi_str, name))), made)
+        return made[name]
 
-    def test_wrong_counts(self):
-        for name, given in self.GOOD.items():
-            call = getattr(ansi_str._library, name)
-            good = [value for _, value in given]
-            for words in ([], good[:-1] if name != "walk" else [], [*good, b""]):
-                with self.assertRaises(TypeError, msg=name):
-                    call(*words)
+    def test_wrong_counts_and_names(self):
+        for name, more in CALLS.items():
+            call, python = getattr(ansi_str, name), self.python_of(name)
+            words = list(inspect.signature(call).parameters.values())
+            named = {word.name: True for word in words if word.kind == word.KEYWORD_ONLY}
+            for given, names in (((), {}), (("",), {"zzz": 1}), (("",), {"text": ""}), ([""] * 5, {}), ([""] * 5, named), ((), named), ((), {"text": ""}),
+                                 (("",), {"zzz": 1, "text": ""}), ([""] * 5, {"zzz": 1}), (["", *more], {"zzz": 1}), ([], {words[-1].name: ""})):
+                try:
+                    python(*given, **names)
+                except TypeError as error:
+                    self.refused_as(error, call, *given, **names)
 
-    def test_a_text_that_is_not_utf8_is_let_go_once(self):
-        library, data = ansi_str._library, b"\xff\x1b[1mabc"
-        for call in (lambda: library.restyle(data, False, ((0, 1),), b"1"), lambda: library.replace_each(data, False, ((0, 1, b"b"),)),
-                     lambda: library.walk_lines(data, False, 1), lambda: library.matches(data, False, b"a"), lambda: library.links(data, False),
-                     lambda: library.edit(data, False, ((0, 0, 1, b""),)), lambda: library.tell(5, data, False, b"a", 0)):
-            for _ in range(50):
-                self.assertRaises(ValueError, call)
-            # (what is let go twice would be given out twice)
-            blocks = [bytes(size) for size in range(2, 480) for _ in range(50)]
-            self.assertEqual(len(set(map(id, blocks))), len(blocks))
+    def refused_as(self, error, call, *given, **names):
+        with self.assertRaises(TypeError) as caught:
+            call(*given, **names)
+        self.assertEqual(str(caught.exception), str(error))
 
-    def test_huge_numbers(self):
-        edit, tell = ansi_str._library.edit, ansi_str._library.tell
-        for huge in HUGE:
-            self.assertEqual(edit(b"abc", True, ((0, 0, huge, b""),)), "abc")
-            self.assertEqual(edit("\xe9".encode(), False, ((0, 0, huge, b""), (1, huge, huge, b""))), "\xe9")
-            self.assertEqual(tell(7, b"abc", True, b"", huge), 3)
-            self.assertEqual(ansi_str._library.wrap(b"abc", huge, b"", b""), ["abc"])
-            for step in (7, 5, huge), (8, 5, huge), (9, 5, huge), (10, 0, huge), (10, huge, 0):
-                with self.assertRaises(ValueError):
-                    edit(b"abc", True, (step + (b"",),))
-            with self.assertRaises(ValueError):
-                tell(4, b"abc", True, b"", huge)
+    def test_arguments_by_name(self):
+        for name, more in CALLS.items():
+            call = getattr(ansi_str, name)
+            words = list(inspect.signature(call).parameters)
+            given = ["\x1b[1ma\xe9,b", *more]
+            wanted = made(call, *given)
+            for by_name in range(len(given) + 1):
+                front = len(given) - by_name
+                self.assertEqual(made(call, *given[:front], **dict(zip(words[front:], given[front:]))), wanted, name)
+
+    def test_defaults(self):
+        text = "\x1b[1ma\t\xe9,b"
+        for name in CALLS:
+            call = getattr(ansi_str, name)
+            words = inspect.signature(call).parameters.values()
+            defaults = {word.name: word.default for word in words if word.default is not word.empty}
+            self.assertEqual(made(call, text, *CALLS[name]), made(call, text, *CALLS[name], **{
+                word: default for at, (word, default) in enumerate(defaults.items()) if word not in list(inspect.signature(call).parameters)[:1 + len(CALLS[name])]}))
+
+    def test_they_are_functions_of_the_package(self):
+        for name in CALLS:
+            call = getattr(ansi_str, name)
+            self.assertTrue(inspect.isbuiltin(call), name)
+            self.assertEqual((call.__name__, call.__qualname__, call.__module__), (name, name, "ansi_str"))
+            self.assertIs(pickle.loads(pickle.dumps(call)), call)
+            self.assertIn(">>> ", call.__doc__)
+
+    def test_indices(self):
+        class Index:
+            def __init__(self, number):
+                self.number = number
+
+            def __index__(self):
+                if self.number is None:
+                    raise KeyError("none")
+                return self.number
+
+        self.assertEqual(ansi_str.cut("abc", Index(1), Index(2)), "b")
+        self.assertEqual(ansi_str.cut("abc", True), "bc")
+        for wrong, kind in ((Index("1"), TypeError), (Index(-1), ValueError), (Index(None), KeyError)):
+            with self.assertRaises(kind):
+                ansi_str.cut("abc", wrong)
+            with self.assertRaises(kind):
+                ansi_str.restyle("abc", [(wrong, 2)], "1")
+
+    def test_a_text_that_is_as_it_was(self):
+        # (it may be the same object, but never a `str` of another class, or one with surrogates)
+        class Named(str):
+            pass
+
+        for text in ("abc", "\xe9", "\x1b[1ma\x1b[0m", "x" * 100000):
+            for call in (ansi_str.trim, ansi_str.strip_prefix, ansi_str.unlink, ansi_str.cut):
+                more = [""] if call is ansi_str.strip_prefix else []
+                self.assertEqual(call(text, *more), text)
+                self.assertIs(type(call(Named(text), *more)), str)
+        self.assertEqual(ansi_str.sanitize("\udcc3\udca9"), "\xe9")
+
+    def test_an_edit_with_other_members(self):
+        for edit in (tuple.__new__(ansi_str.Cut, ()), tuple.__new__(ansi_str.Cut, (1, 2, 3)), tuple.__new__(ansi_str.Trim, (1,))):
+            self.assertRaises(TypeError, ansi_str.edit, "abc", edit)
+        self.assertRaises(TypeError, ansi_str.edit_columns, "abc", tuple.__new__(ansi_str.Fit, (1,)))
 
     def test_walks(self):
-        for walk in (ansi_str._library.walk(b"\x1b[1ma"), ansi_str._library.walk(b"\x1b[1ma", b",")):
-            self.assertEqual(walk.sequences(), ("", ""))
-            for make in (type(walk), lambda: object.__new__(type(walk)), lambda: copy.copy(walk), lambda: walk.sequences(1)):
+        for walk, count in ((ansi_str.iter_blocks("\x1b[1ma"), 1), (ansi_str.iter_split("a,b", ","), 2), (ansi_str.iter_lines("\xe9 b", 1), 2)):
+            for make in (type(walk), lambda: object.__new__(type(walk)), lambda: copy.copy(walk)):
                 with self.assertRaises(TypeError):
                     make()
-            self.assertEqual(len(list(walk)), 1)
-            self.assertEqual(list(walk), [])
+            self.assertEqual([len(list(walk)), len(list(walk))], [count, 0])
+
+    def test_styles_are_kept_and_made_again(self):
+        texts = ["\x1b[38;2;%d;%d;%dma" % (number % 251, number % 83, number % 7) for number in range(1000)]
+        for _ in range(2):
+            for number, text in enumerate(texts):
+                self.assertEqual(ansi_str.blocks(text)[0].style.foreground, (number % 251, number % 83, number % 7))
 
     def test_a_module_that_has_not_started(self):
         module = importlib.util.module_from_spec(ansi_str._library.__spec__)
-        self.assertRaises(RuntimeError, module.walk, b"a")
-        self.assertEqual(module.strip(b"a"), "a")
+        self.assertRaises(ValueError, module.described, "width", "", "ansi_str")
+        self.assertRaises(TypeError, module.use)
+        module.__spec__.loader.exec_module(module)
+        self.assertRaises(ValueError, module.described, "none", "", "ansi_str")
+        self.assertRaises(TypeError, module.described, "width")
+        self.assertEqual(module.described("width", "", "ansi_str")("ab"), 2)
+        self.assertRaises(ValueError, module.described, "width", "", "ansi_str")
+        for name, given in (("blocks", ["a"]), ("pen_after", ["a"]), ("links", ["\x1b]8;;u\x07a"]), ("mark", ["a", "a", "1"]), ("edit", ["a", []]), ("of", ["1"])):
+            self.assertRaises(RuntimeError, module.described(name, "", "ansi_str"), *given)
+        self.assertRaises(TypeError, module.use, 1)
+        for wrong in (0, int, str, None):
+            self.assertRaises(TypeError, module.use, *[wrong] * 18)
+        self.assertRaises(TypeError, module.use, *[tuple] * 17)
+        module.use(*[tuple] * 18)
 
 
 # runs a program in interpreters beside the first, one after the other, and then in two at the same time
@@ -788,7 +803,7 @@ class Interpreters(unittest.TestCase):
         self.assertEqual(ran.stderr, b"passed in 4\n" if sys.version_info >= (3, 12) else b"passed in 2\n")
 
 
-def made(call, *arguments, **options):
+def told(call, *arguments, **options):
     """What a call returns, or the message of its ValueError."""
     try:
         return call(*arguments, **options)
@@ -808,9 +823,9 @@ class DropIns(unittest.TestCase):
             for width in (5, 7, 8, 10, 14, 70):
                 for option in options:
                     with self.subTest(text=text, width=width, option=option):
-                        self.assertEqual(made(compat.wrap, text, width, **option), made(textwrap.wrap, text, width, **option))
-                        self.assertEqual(made(compat.fill, text, width, **option), made(textwrap.fill, text, width, **option))
-                self.assertEqual(made(compat.shorten, text, width), made(textwrap.shorten, text, width))
+                        self.assertEqual(told(compat.wrap, text, width, **option), told(textwrap.wrap, text, width, **option))
+                        self.assertEqual(told(compat.fill, text, width, **option), told(textwrap.fill, text, width, **option))
+                self.assertEqual(told(compat.shorten, text, width), told(textwrap.shorten, text, width))
 
     def test_lines_count_columns_and_keep_styles_and_links(self):
         link = "\x1b]8;;http://u\x1b\\"
@@ -835,8 +850,8 @@ class DropIns(unittest.TestCase):
 
     def test_what_is_refused(self):
         for options in ({"fix_sentence_endings": True}, {"replace_whitespace": False}):
-            self.assertIn("must be", made(compat.wrap, "a", 5, **options))
-        self.assertEqual(made(compat.wrap, "a", 0), made(textwrap.wrap, "a", 0))
+            self.assertIn("must be", told(compat.wrap, "a", 5, **options))
+        self.assertEqual(told(compat.wrap, "a", 0), told(textwrap.wrap, "a", 0))
 
     def test_widths(self):
         # as tabulate and prettytable count, and what they leave in

@@ -1,54 +1,63 @@
-"""Makes each call of the module in C with each of its requests for memory refused in turn: it raises a MemoryError, and then returns as
-before, and holds no memory. `bindings/test` runs it over refusing.c, with PYTHONMALLOC=malloc. (Python's own code between the
-calls isn't tried: some interpreters don't handle that.)"""
+"""Makes each call with each of its requests for memory refused in turn: it raises a MemoryError, and then returns as before, and holds
+no memory. `bindings/test` runs it over refusing.c, with PYTHONMALLOC=malloc. (Python's own code isn't tried: some interpreters don't
+handle that. So the styles of blocks are made here by a class in C.)"""
 
 import ctypes
 import gc
+from collections import abc
 
-from ansi_str import _library
+import ansi_str
 
 ALLOCATOR = ctypes.CDLL(None)
 ALLOCATOR.held.restype = ctypes.c_long
 TEXTS = ["", "red, fox", "\x1b[1;31mred\x1b]0;t\x07, \x1b[4m\tfox\x1b[0m", "\x1b[1mr\u00e9d\x1b[0m, \u65e5\x1b[31m", "\x1b[1m,\x1b[3ma" * 40,
          "\x1b]8;;u\x07r\u00e9d" * 20]
-CUT, LEFT, RIGHT, PART, PREFIX, SUFFIX, TRIM, TRUNCATE, FIT, PAD, SANITIZE, LINK_AT, SLICE, EXPAND_TABS, REMOVE, REPLACE, LINK, UNLINK = range(18)
-STEPS = [(CUT, 1, 4, b""), (LEFT, 3, 0, b""), (RIGHT, 3, 0, b""), (PART, 1, 0, b","), (PREFIX, 0, 0, b"r"), (SUFFIX, 0, 0, b"x"),
-         (TRIM, 0, 0, b""), (TRUNCATE, 3, 0, b"..."), (FIT, 3, 0, b"..."), (PAD, 300, 1, b""), (SANITIZE, 1, 0, b""), (LINK_AT, 1, 0, b""),
-         (SLICE, 1, 5, b""), (EXPAND_TABS, 4, 0, b""), (REMOVE, 1, 3, b""), (REPLACE, 1, 3, b"\x1b[1mn"), (LINK, 1, 3, b"u"), (UNLINK, 0, 0, b"")]
-WHAT = range(10)
+# the calls, and what follows the text
+CALLS = [("strip",), ("cut", 1, 4), ("left", 3), ("right", 3), ("part", ",", 1), ("strip_prefix", "r"), ("strip_suffix", "x"), ("trim",), ("width",), ("fitting", 3),
+         ("column_of", 3), ("truncate", 3, "..."), ("pad", 300, "center"), ("fit", 3, "left", "..."), ("slice_columns", 1, 5), ("expand_tabs", 4), ("wrap", 4),
+         ("wrap", 4, "* ", "  "), ("lines", 1), ("link_at", 1), ("find", "o"), ("find_from", 1, "o"), ("matches", ""), ("matches", ","), ("matches", "z"),
+         ("starts_with", "o"), ("ends_with", "o"), ("has_any",), ("is_whole",), ("mark", "e", "1"), ("remove", 1, 3), ("replace", 1, 3, "\x1b[1mn"),
+         ("insert", 1, "n\u00e9"), ("replace_all", "e", "\x1b[1mnew"), ("link", 1, 3, "u"), ("unlink",), ("links",), ("is_safe",), ("split", ""), ("split", ","),
+         ("split", "fox"), ("pen_after",), ("blocks",), ("edit", []), ("edit", ansi_str.Cut(1, 4)), ("edit", [ansi_str.Cut(1), ansi_str.Part("", 1), ansi_str.Trim()]),
+         ("edit_columns", []), ("edit_columns", ansi_str.Expand()), ("edit_columns", [ansi_str.Truncate(3, "..."), ansi_str.Pad(300)])]
+RANGES = ((), ((0, 0),), ((0, 1), (1, 3)), [[0, 1], [1, 3]], ((2, 900),))
 # so often each request is refused, and what the interpreter may keep for later calls
 TIMES, KEPT = 40, 20
 
 
+def use(make_style):
+    """Lets styles be made by something else, each again."""
+    ansi_str._library.use(make_style, ansi_str.Style, ansi_str.Block, ansi_str.Pen, ansi_str.Link, abc.Iterator, *ansi_str.Edit.__args__,
+                          *ansi_str.ColumnEdit.__args__)
+
+
+def styled_anew(text):
+    """The blocks of a text, each with a `slice` for its style."""
+    use(slice)
+    return ansi_str.blocks(text)
+
+
+def or_message(call, *given):
+    """What a call returns, or what its ValueError says."""
+    try:
+        return call(*given)
+    except ValueError as error:
+        return str(error)
+
+
 def calls():
-    for data in (b"\xff", b"\x1b[1mcaf\xe9" * 40):
-        yield lambda: _library.edit(data, False, ((SANITIZE, 1, 0, b""),))
+    for data in (b"\xff", b"\x1b[1mcaf\xe9" * 40, "caf\udce9"):
+        yield lambda: ansi_str.sanitize(data, show=True)
     for text in TEXTS:
-        data = text.encode()
-        is_ascii = len(data) == len(text)
-        for steps in [(step,) for step in STEPS] + [(), tuple(STEPS[:1] + STEPS[2:3] + STEPS[6:])]:
-            yield lambda: _library.edit(data, is_ascii, steps)
-        yield lambda: _library.strip(data)
-        yield lambda: _library.wrap(data, 4, b"", b"")
-        yield lambda: _library.wrap(data, 4, b"* ", b"  ")
-        yield lambda: list(_library.walk_lines(data, is_ascii, 1))
-        yield lambda: _library.mark(data, b"e", b"1")
-        yield lambda: _library.replace_all(data, b"e", b"\x1b[1mnew")
-        for ranges in ((), ((0, 0),), ((0, 1), (1, 3)), ((2, 900),)):
-            yield lambda: _library.restyle(data, is_ascii, ranges, b"1")
-            replacements = tuple((start, end, b"\x1b[1mnew") for start, end in ranges)
-            yield lambda: _library.replace_each(data, is_ascii, replacements)
-        for pattern in (b"", b",", b"z"):
-            yield lambda: _library.matches(data, is_ascii, pattern)
-        yield lambda: _library.links(data, is_ascii)
-        for what in WHAT:
-            yield lambda: _library.tell(what, data, is_ascii, b"o", 1)
-        for pattern in (b"", b",", b"fox"):
-            yield lambda: list(_library.walk(data, pattern))
-        yield lambda: list(_library.walk(data))
-        walk = _library.walk(data)
-        for _ in walk:
-            yield walk.sequences
+        for name, *more in CALLS:
+            yield lambda: or_message(getattr(ansi_str, name), text, *more)
+        for ranges in RANGES:
+            yield lambda: or_message(ansi_str.restyle, text, ranges, "1")
+            replacements = [(start, end, "\x1b[1mnew") for start, end in ranges]
+            yield lambda: or_message(ansi_str.replace_each, text, replacements)
+    yield lambda: ansi_str.Style.of("1;" * 600)
+    for text in TEXTS:
+        yield lambda: styled_anew(text)
 
 
 def answer(call, granted):
@@ -58,7 +67,11 @@ def answer(call, granted):
         got = call()
     except MemoryError:
         got = MemoryError
-    return got, ALLOCATOR.refused()
+    try:
+        return got, ALLOCATOR.refused()
+    except MemoryError:
+        # (the call needed less, and this one was refused)
+        return got, ALLOCATOR.refused()
 
 
 def held():

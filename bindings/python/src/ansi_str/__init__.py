@@ -51,14 +51,17 @@ The classes, each with a help of its own: `Block` and `Style`, which `blocks` re
 >>> find(log, "d and")
 2
 """
+# (the bodies of the calls are in C)
+# mypy: disable-error-code="empty-body"
 
 import operator
 import os
 import struct
 import sys
+from collections import abc
 from importlib.machinery import ExtensionFileLoader
 from importlib.util import module_from_spec, spec_from_file_location
-from typing import Any, Dict, FrozenSet, Iterable, Iterator, List, NamedTuple, Optional, Tuple, Union
+from typing import Any, Callable, FrozenSet, Iterable, Iterator, List, NamedTuple, Optional, Tuple, TypeVar, Union
 
 __version__ = "0.2.0"
 # (without the types: `help` would show a hundred lines for each class, all before the first function)
@@ -97,18 +100,15 @@ else:
 # the attributes; the colors of the text, behind it and of its underline, each a kind and three numbers; whether a font is set, and it
 _STYLE = struct.Struct("=I4B4B4B?B")
 
-# the kinds of edits, the last position, and the questions about a text
-(_CUT, _LEFT, _RIGHT, _PART, _PREFIX, _SUFFIX, _TRIM, _TRUNCATE, _FIT, _PAD, _SANITIZE, _LINK_AT, _SLICE, _EXPAND_TABS,
- _REMOVE, _REPLACE, _LINK, _UNLINK, _PEN_START, _PEN_END) = range(20)
-_LAST = sys.maxsize
-_STARTS_WITH, _ENDS_WITH, _HAS_ANY, _IS_WHOLE, _IS_SAFE, _FIND, _FIND_FROM, _FITTING, _WIDTH, _COLUMN_OF = range(10)
+_Call = TypeVar("_Call", bound=Callable[..., Any])
 
 
 def _loaded() -> Any:
     file = os.environ.get("ANSI_STR_SO") or os.path.join(os.path.dirname(os.path.abspath(__file__)), "_ansi_str.abi3.so")
-    loader = ExtensionFileLoader("ansi_str._ansi_str", file)
+    loader: Any = ExtensionFileLoader("ansi_str._ansi_str", file)
+    spec: Any = spec_from_file_location(loader.name, file, loader=loader)
     try:
-        module: Any = module_from_spec(spec_from_file_location(loader.name, file, loader=loader))  # type: ignore[arg-type]
+        module: Any = module_from_spec(spec)
     except ImportError as fault:
         raise ImportError("ansi_str can't load its library, {}: run bindings/python/build of its repository, install its wheel, "
                           "or name the file in ANSI_STR_SO ({})".format(file, fault)) from fault
@@ -119,15 +119,18 @@ def _loaded() -> Any:
 _library = _loaded()
 
 
-def _utf8(name: str, text: str, errors: str = "strict") -> bytes:
-    if not isinstance(text, str):
-        raise TypeError("{} must be a str, not {}".format(name, type(text).__name__))
-    try:
-        # (a subclass may have an `encode` of its own)
-        return str.encode(text, "utf-8", errors)
-    except UnicodeEncodeError as fault:
-        fault.reason = name + " has a lone surrogate"
-        raise
+def _in_c(call: _Call) -> _Call:
+    """The function of the module in C that has this name. It takes its signature and its docstring from this one."""
+    described: Any = call
+    code, defaults, named = described.__code__, described.__defaults__ or (), described.__kwdefaults__ or {}
+    words = list(code.co_varnames[:code.co_argcount])
+    for place, value in enumerate(defaults, len(words) - len(defaults)):
+        words[place] += "={!r}".format(value)
+    if named:
+        words += ["*"] + ["{}={!r}".format(*word) for word in named.items()]
+    head = "{}({})\n--\n\n".format(described.__name__, ", ".join(words))
+    made: _Call = _library.described(described.__name__, head + (described.__doc__ or ""), described.__module__)
+    return made
 
 
 def _position(name: str, position: int) -> int:
@@ -142,39 +145,16 @@ def _position(name: str, position: int) -> int:
     return position
 
 
-# An edit as the module takes it: its kind, two positions and the bytes of its pattern.
-_Step = Tuple[int, int, int, bytes]
-
-
-def _cut_step(start: int, end: Optional[int]) -> _Step:
-    start = _position("start", start)
-    if end is None:
-        return _CUT, start, _LAST, b""
-    end = _position("end", end)
-    # (the module takes all large positions as one; an end below its start has to stay below it)
-    return (_CUT, start, end, b"") if start <= end else (_CUT, 1, 0, b"")
-
-
-def _edited(text: str, *steps: _Step) -> Any:
-    data = _utf8("text", text)
-    return _library.edit(data, len(data) == str.__len__(text), steps)
-
-
-def _told(what: int, text: str, pattern: str = "", number: int = 0) -> Any:
-    data = _utf8("text", text)
-    return _library.tell(what, data, len(data) == str.__len__(text), _utf8("pattern", pattern), number)
-
-
+@_in_c
 def strip(text: str) -> str:
     """The plain text: the text without its sequences.
 
     >>> strip("a\\x1b]0;title\\x07b")
     'ab'
     """
-    data = _utf8("text", text)
-    return text if b"\x1b" not in data else _library.strip(data)  # type: ignore[no-any-return]
 
 
+@_in_c
 def cut(text: str, start: int = 0, end: Optional[int] = None) -> str:
     """The text from one position up to another, each character in its style. All sequences up to the end of the cut stay, those
     before its start too. Then the style still open is closed. ValueError: the end is below the start.
@@ -184,84 +164,81 @@ def cut(text: str, start: int = 0, end: Optional[int] = None) -> str:
     >>> cut("\\x1b[1ma\\x1b[0m\\x1b[31mred", 1, 2)
     '\\x1b[1m\\x1b[0m\\x1b[31mr\\x1b[39m'
     """
-    edited = _edited(text, _cut_step(start, end))
-    if edited is None:
-        raise ValueError("the end lies before the start: {} is below {}".format(end, start))
-    return edited  # type: ignore[no-any-return]
 
 
+@_in_c
 def left(text: str, mid: int) -> str:
     """The text before a position, each run of it with the start of its style before it and the close after it.
 
     >>> left("\\x1b[30mTEXT\\x1b[39m", 2)
     '\\x1b[30mTE\\x1b[39m'
     """
-    return _edited(text, (_LEFT, _position("mid", mid), 0, b""))  # type: ignore[no-any-return]
 
 
+@_in_c
 def right(text: str, mid: int) -> str:
     """The text from a position on, in the same form as `left`.
 
     >>> right("\\x1b[30mTEXT\\x1b[39m", 2)
     '\\x1b[30mXT\\x1b[39m'
     """
-    return _edited(text, (_RIGHT, _position("mid", mid), 0, b""))  # type: ignore[no-any-return]
 
 
+@_in_c
 def trim(text: str) -> str:
     """The text without the white space at the ends of its plain text. Every sequence stays.
 
     >>> trim(" \\x1b[31m red \\x1b[39m ")
     '\\x1b[31mred\\x1b[39m'
     """
-    return _edited(text, (_TRIM, 0, 0, b""))  # type: ignore[no-any-return]
 
 
+@_in_c
 def strip_prefix(text: str, pattern: str) -> Optional[str]:
     """The text without a prefix of its plain text, or None if the plain text doesn't begin with it. Every sequence stays.
 
     >>> strip_prefix("\\x1b[31mred\\x1b[39m", "re")
     '\\x1b[31md\\x1b[39m'
     """
-    return _edited(text, (_PREFIX, 0, 0, _utf8("pattern", pattern)))  # type: ignore[no-any-return]
 
 
+@_in_c
 def strip_suffix(text: str, pattern: str) -> Optional[str]:
     """The text without a suffix of its plain text, or None if the plain text doesn't end with it. Every sequence stays.
 
     >>> strip_suffix("\\x1b[31mred\\x1b[39m", "ed")
     '\\x1b[31mr\\x1b[39m'
     """
-    return _edited(text, (_SUFFIX, 0, 0, _utf8("pattern", pattern)))  # type: ignore[no-any-return]
 
 
+@_in_c
 def part(text: str, pattern: str, index: int) -> Optional[str]:
     """The part of an index, counted from 0, as `split` returns it, or None if there is no such part.
 
     >>> part("\\x1b[31mlion::tiger\\x1b[0m", "::", 1)
     '\\x1b[31mtiger\\x1b[0m'
     """
-    return _edited(text, (_PART, _position("index", index), 0, _utf8("pattern", pattern)))  # type: ignore[no-any-return]
 
 
+@_in_c
 def find(text: str, pattern: str) -> Optional[int]:
     """The position of the pattern's first match in the plain text, or None.
 
     >>> find("\\x1b[1mé\\x1b[0mb", "b")
     1
     """
-    return _told(_FIND, text, pattern)  # type: ignore[no-any-return]
 
 
+@_in_c
 def find_from(text: str, position: int, pattern: str) -> Optional[int]:
     """The position of the pattern's first match in the plain text that doesn't begin before a position, or None.
 
     >>> find_from("ab\\x1b[1mab", 1, "ab"), find_from("ab\\x1b[1mab", 3, "ab")
     (2, None)
     """
-    return _told(_FIND_FROM, text, pattern, _position("position", position))  # type: ignore[no-any-return]
 
 
+@_in_c
 def matches(text: str, pattern: str) -> List[Tuple[int, int]]:
     """Where each match of a pattern begins and ends in the plain text, in order. Matches don't overlap, and may run across
     sequences. An empty pattern matches between any two characters and at both ends. `restyle` takes the ranges as they are.
@@ -269,46 +246,45 @@ def matches(text: str, pattern: str) -> List[Tuple[int, int]]:
     >>> matches("a\\x1b[1mba\\x1b[0mb", "ab")
     [(0, 2), (2, 4)]
     """
-    data = _utf8("text", text)
-    return _library.matches(data, len(data) == str.__len__(text), _utf8("pattern", pattern))  # type: ignore[no-any-return]
 
 
+@_in_c
 def starts_with(text: str, pattern: str) -> bool:
     """Whether the plain text begins with the pattern.
 
     >>> starts_with("\\x1b[31mred", "re")
     True
     """
-    return _told(_STARTS_WITH, text, pattern)  # type: ignore[no-any-return]
 
 
+@_in_c
 def ends_with(text: str, pattern: str) -> bool:
     """Whether the plain text ends with the pattern.
 
     >>> ends_with("\\x1b[31mred\\x1b[39m", "ed")
     True
     """
-    return _told(_ENDS_WITH, text, pattern)  # type: ignore[no-any-return]
 
 
+@_in_c
 def has_any(text: str) -> bool:
     """Whether the text has an ESC.
 
     >>> has_any("red"), has_any("\\x1b[31mred")
     (False, True)
     """
-    return _told(_HAS_ANY, text)  # type: ignore[no-any-return]
 
 
+@_in_c
 def is_whole(text: str) -> bool:
     """Whether no ESC in the text begins an unfinished sequence.
 
     >>> is_whole("\\x1b[31mred"), is_whole("red\\x1b[3")
     (True, False)
     """
-    return _told(_IS_WHOLE, text)  # type: ignore[no-any-return]
 
 
+@_in_c
 def sanitize(text: Union[str, bytes], *, show: bool = False, links: bool = False) -> str:
     """The text made safe, so that it can't drive the terminal. Printing characters, TAB, line feeds, carriage returns directly
     before a line feed and SGRs stay, and with `links` links (OSC 8) of printable ASCII, with an address of at most 2083 characters
@@ -325,19 +301,18 @@ def sanitize(text: Union[str, bytes], *, show: bool = False, links: bool = False
     >>> sanitize(b"caf\\xe9"), sanitize("caf\\udce9")
     ('caf\ufffd', 'caf\ufffd')
     """
-    data = text if isinstance(text, bytes) else _utf8("text", text, "surrogateescape")
-    return _library.edit(data, False, ((_SANITIZE, 1 if show else 0, 1 if links else 0, b""),))  # type: ignore[no-any-return]
 
 
+@_in_c
 def is_safe(text: str, *, links: bool = False) -> bool:
     """Whether the text is safe: whether `sanitize` would drop nothing. A style or a link may be open at its end.
 
     >>> is_safe("\\x1b[31mred"), is_safe("\\x1b[2J")
     (True, False)
     """
-    return _told(_IS_SAFE, text, "", 1 if links else 0)  # type: ignore[no-any-return]
 
 
+@_in_c
 def width(text: str) -> int:
     """The display width of the text in columns: the sum over the extended grapheme clusters of what a terminal
     shows, which has a blank for each TAB and line feed, and no other controls.
@@ -345,18 +320,18 @@ def width(text: str) -> int:
     >>> width("\\x1b[31m日本\\x1b[39m")
     4
     """
-    return _told(_WIDTH, text)  # type: ignore[no-any-return]
 
 
+@_in_c
 def fitting(text: str, width: int) -> int:
     """The position up to which the plain text fits into `width` columns. The text can be cut there.
 
     >>> fitting("a\\x1b[1m日本", 4)
     2
     """
-    return _told(_FITTING, text, "", _position("width", width))  # type: ignore[no-any-return]
 
 
+@_in_c
 def column_of(text: str, position: int) -> int:
     """The column of a position: how many columns what is shown before it has. Inside a cluster, the part of it before the
     position counts as a cluster.
@@ -364,7 +339,6 @@ def column_of(text: str, position: int) -> int:
     >>> column_of("a\\x1b[1m日本", 2)
     3
     """
-    return _told(_COLUMN_OF, text, "", _position("position", position))  # type: ignore[no-any-return]
 
 
 def _index(name: str, word: str, words: Tuple[str, ...]) -> int:
@@ -373,26 +347,7 @@ def _index(name: str, word: str, words: Tuple[str, ...]) -> int:
     return words.index(word)
 
 
-def _truncate_step(width: int, tail: str, side: Side) -> _Step:
-    return _TRUNCATE, _position("width", width), _index("side", side, SIDES), _utf8("tail", tail)
-
-
-def _pad_step(width: int, alignment: Alignment) -> _Step:
-    return _PAD, _position("width", width), _index("alignment", alignment, ALIGNMENTS), b""
-
-
-def _fit_step(width: int, alignment: Alignment, tail: str) -> _Step:
-    return _FIT, _position("width", width), _index("alignment", alignment, ALIGNMENTS), _utf8("tail", tail)
-
-
-def _slice_step(start: int, end: Optional[int]) -> _Step:
-    return _SLICE, _position("start", start), _LAST if end is None else _position("end", end), b""
-
-
-def _expand_step(stop: int) -> _Step:
-    return _EXPAND_TABS, _position("stop", stop), 0, b""
-
-
+@_in_c
 def truncate(text: str, width: int, tail: str = "", side: Side = "end") -> str:
     """The text truncated to `width` columns, on one line and safe: SGRs, clean links (OSC 8) and printing characters stay, TAB
     and line ends become a blank, and the rest is left out. If it is truncated and the tail fits, the tail follows, shown
@@ -405,9 +360,9 @@ def truncate(text: str, width: int, tail: str = "", side: Side = "end") -> str:
     >>> truncate("/usr/local/bin", 8, "…", side="middle")
     '/usr…bin'
     """
-    return _edited(text, _truncate_step(width, tail, side))  # type: ignore[no-any-return]
 
 
+@_in_c
 def pad(text: str, width: int, alignment: Alignment = "left") -> str:
     """The text padded with blanks to `width` columns, at the left, the center or the right, on one line and safe, as by
     `truncate`. The link and style still open at its end are closed before the blanks. ValueError: the alignment is none of
@@ -416,18 +371,18 @@ def pad(text: str, width: int, alignment: Alignment = "left") -> str:
     >>> pad("\\x1b[41mab", 5, "center")
     ' \\x1b[41mab\\x1b[49m  '
     """
-    return _edited(text, _pad_step(width, alignment))  # type: ignore[no-any-return]
 
 
+@_in_c
 def fit(text: str, width: int, alignment: Alignment = "left", tail: str = "") -> str:
     """The text of a table's cell: truncated to `width` columns, as by `truncate`, and then padded to them, as by `pad`.
 
     >>> fit("\\x1b[41mab", 4), fit("\\x1b[41mabcdef", 4, tail="…")
     ('\\x1b[41mab\\x1b[49m  ', '\\x1b[41mabc\\x1b[49m…')
     """
-    return _edited(text, _fit_step(width, alignment, tail))  # type: ignore[no-any-return]
 
 
+@_in_c
 def slice_columns(text: str, start: int = 0, end: Optional[int] = None) -> str:
     """The columns of the text from `start`, of which the first is 0, up to `end` or the last one, on one line and safe, as by
     `truncate`. What is open at the start is opened first, and the link and style still open at the end are closed. If a cluster
@@ -436,9 +391,9 @@ def slice_columns(text: str, start: int = 0, end: Optional[int] = None) -> str:
     >>> slice_columns("\\x1b[31m日本語\\x1b[39m", 1, 4)
     '\\x1b[31m 本\\x1b[39m'
     """
-    return _edited(text, _slice_step(start, end))  # type: ignore[no-any-return]
 
 
+@_in_c
 def expand_tabs(text: str, stop: int = 8) -> str:
     """The text with each TAB expanded: it becomes blanks up to the next multiple of `stop` columns from the beginning of its
     line. Sequences and controls have no columns. Everything else is unchanged. If `stop` is 0, a TAB becomes nothing.
@@ -446,9 +401,9 @@ def expand_tabs(text: str, stop: int = 8) -> str:
     >>> expand_tabs("a\\x1b[4m\\tb\\n日\\tc", 4)
     'a\\x1b[4m   b\\n日  c'
     """
-    return _edited(text, _expand_step(stop))  # type: ignore[no-any-return]
 
 
+@_in_c
 def wrap(text: str, width: int, first_indent: str = "", indent: str = "") -> List[str]:
     """The text wrapped to lines of `width` columns, each safe: SGRs, clean links (OSC 8) and printing characters stay, a TAB
     becomes a blank, and the rest is left out. Each line closes the link and style that it leaves open; the next line reopens
@@ -461,10 +416,9 @@ def wrap(text: str, width: int, first_indent: str = "", indent: str = "") -> Lis
     >>> wrap("lion tiger", 7, "* ", "  ")
     ['* lion', '  tiger']
     """
-    given = _utf8("text", text), _position("width", width), _utf8("first_indent", first_indent), _utf8("indent", indent)
-    return _library.wrap(*given)  # type: ignore[no-any-return]
 
 
+@_in_c
 def lines(text: str, width: int) -> List[Tuple[int, int]]:
     """Where each line of the text begins and ends in the plain text, as positions, if it is wrapped to a width in columns of what
     is shown. A TAB is a blank, and other controls have no column; those at the end of a line are left out. The text can be cut there.
@@ -472,28 +426,27 @@ def lines(text: str, width: int) -> List[Tuple[int, int]]:
     >>> lines("ab \\x1b[1mcd  efg", 5)
     [(0, 5), (7, 10)]
     """
-    return list(iter_lines(text, width))
 
 
+@_in_c
 def iter_lines(text: str, width: int) -> Iterator[Tuple[int, int]]:
     """An iterator over what `lines` returns, each line searched on demand.
 
     >>> next(iter_lines("ab \\x1b[1mcd  efg", 5))
     (0, 5)
     """
-    data = _utf8("text", text)
-    return _library.walk_lines(data, len(data) == str.__len__(text), _position("width", width))  # type: ignore[no-any-return]
 
 
+@_in_c
 def link_at(text: str, position: int) -> Optional[str]:
     """The address of the link (OSC 8) around the character at a position, or None if no link is open there.
 
     >>> link_at("a \\x1b]8;;http://x\\x1b\\\\link\\x1b]8;;\\x1b\\\\.", 2)
     'http://x'
     """
-    return _edited(text, (_LINK_AT, _position("position", position), 0, b""))  # type: ignore[no-any-return]
 
 
+@_in_c
 def remove(text: str, start: int, end: int) -> str:
     """The text without what its plain text has from one position up to another. Every sequence stays, so in a whole text each
     character that is left keeps its style. ValueError: the end is below the start, or past the end of the plain text.
@@ -501,16 +454,9 @@ def remove(text: str, start: int, end: int) -> str:
     >>> remove("one \\x1b[1mtwo\\x1b[22m three", 2, 5)
     'on\\x1b[1mwo\\x1b[22m three'
     """
-    return _ranged(text, _REMOVE, _position("start", start), _position("end", end), b"")
 
 
-def _ranged(text: str, kind: int, start: int, end: int, data: bytes) -> str:
-    made = _edited(text, (kind, start, end, data))
-    if made is None:
-        raise ValueError("no range of the plain text: {} up to {}".format(start, end))
-    return made  # type: ignore[no-any-return]
-
-
+@_in_c
 def replace(text: str, start: int, end: int, new: str) -> str:
     """The text with another text in place of what its plain text has from one position up to another. The new text is in the style
     and the link of the character before `start`; at the front, of the first one. Its own sequences come on top of that, and what
@@ -521,9 +467,9 @@ def replace(text: str, start: int, end: int, new: str) -> str:
     >>> replace("\\x1b[32mgreen\\x1b[39m", 1, 3, "\\x1b[1mAB")
     '\\x1b[32mg\\x1b[1mAB\\x1b[22m\\x1b[39m\\x1b[32men\\x1b[39m'
     """
-    return _ranged(text, _REPLACE, _position("start", start), _position("end", end), _utf8("new", new))
 
 
+@_in_c
 def insert(text: str, position: int, new: str) -> str:
     """The text with another text put in at a position, as `replace` does it with an empty range there. ValueError: the position is
     past the end of the plain text.
@@ -531,13 +477,9 @@ def insert(text: str, position: int, new: str) -> str:
     >>> insert("\\x1b[32mgreen\\x1b[39m.", 5, "ish")
     '\\x1b[32mgreenish\\x1b[39m.'
     """
-    place = _position("position", position)
-    longer = _edited(text, (_REPLACE, place, place, _utf8("new", new)))
-    if longer is None:
-        raise ValueError("the position lies past the end of the plain text: {}".format(position))
-    return longer  # type: ignore[no-any-return]
 
 
+@_in_c
 def replace_all(text: str, pattern: str, new: str) -> str:
     """The text with another text in place of each match of a pattern, as `matches` finds them and `replace` replaces each: the new
     text is in the style and the link that the character before the match has in this text. Every other character keeps its style
@@ -546,9 +488,9 @@ def replace_all(text: str, pattern: str, new: str) -> str:
     >>> replace_all("\\x1b[32mone\\x1b[39m, one", "one", "two")
     '\\x1b[32mtwo\\x1b[39m, two'
     """
-    return _library.replace_all(_utf8("text", text), _utf8("pattern", pattern), _utf8("new", new))  # type: ignore[no-any-return]
 
 
+@_in_c
 def replace_each(text: str, replacements: Iterable[Tuple[int, int, str]]) -> str:
     """The text with a text of its own in place of each of many ranges, in one pass. A replacement is a start, an end and a new text;
     the positions are those of this text, in order, and the ranges don't overlap. Each range is replaced as `replace` does it: its
@@ -558,19 +500,9 @@ def replace_each(text: str, replacements: Iterable[Tuple[int, int, str]]) -> str
     >>> replace_each("\\x1b[32mone\\x1b[39m two", [(0, 3, "1"), (4, 7, "2")])
     '\\x1b[32m1\\x1b[39m 2'
     """
-    data = _utf8("text", text)
-    given: List[Tuple[int, int, bytes]] = []
-    before = 0
-    for start, end, new in replacements:
-        start, end = _range_from(before, start, end)
-        given.append((start, end, _utf8("new", new)))
-        before = end
-    replaced = _library.replace_each(data, len(data) == str.__len__(text), tuple(given))
-    if replaced is None:
-        raise ValueError("a range ends past the end of the plain text: {}".format(before))
-    return replaced  # type: ignore[no-any-return]
 
 
+@_in_c
 def link(text: str, start: int, end: int, address: str) -> str:
     """The text with what its plain text has from one position up to another linked to an address (OSC 8). Each character there loses
     another link that it had. Every other character keeps its link: one that goes on into the range ends before it, and one that goes
@@ -580,21 +512,15 @@ def link(text: str, start: int, end: int, address: str) -> str:
     >>> link("see \\x1b[1mhere", 4, 8, "http://x")
     'see \\x1b[1m\\x1b]8;;http://x\\x1b\\\\here\\x1b]8;;\\x1b\\\\'
     """
-    data = _utf8("address", address)
-    if not data or not all(0x20 <= byte <= 0x7E for byte in data):
-        raise ValueError("address must be printable ASCII, and not empty, not {!r}".format(address))
-    if len(data) > 2083:
-        raise ValueError("address must have at most 2083 characters, not {}".format(len(data)))
-    return _ranged(text, _LINK, _position("start", start), _position("end", end), data)
 
 
+@_in_c
 def unlink(text: str) -> str:
     """The text without its links: its OSC 8 sequences are left out, and everything else stays.
 
     >>> unlink("\\x1b]8;;http://x\\x1b\\\\a \\x1b[1mlink\\x1b[0m\\x1b]8;;\\x1b\\\\")
     'a \\x1b[1mlink\\x1b[0m'
     """
-    return _edited(text, (_UNLINK, 0, 0, b""))  # type: ignore[no-any-return]
 
 
 class Link(NamedTuple):
@@ -605,6 +531,7 @@ class Link(NamedTuple):
     address: str
 
 
+@_in_c
 def links(text: str) -> List[Link]:
     """The links of a text, in order. An OSC 8 sequence with an address opens a link, which goes on up to the next OSC 8 sequence or
     the end of the text. A link without text is left out.
@@ -612,8 +539,6 @@ def links(text: str) -> List[Link]:
     >>> links("a \\x1b]8;;http://x\\x1b\\\\l\\x1b[1mink\\x1b]8;;\\x1b\\\\")
     [Link(start=2, end=6, address='http://x')]
     """
-    data = _utf8("text", text)
-    return [Link(*each) for each in _library.links(data, len(data) == str.__len__(text))]
 
 
 # A color: a name, a number among 256, or red, green and blue
@@ -668,32 +593,16 @@ def codes(*, foreground: Optional[Color] = None, background: Optional[Color] = N
     return ";".join(given)
 
 
-def _given_codes(style: Union[str, "Style"]) -> bytes:
-    data = _utf8("style", style.codes if isinstance(style, Style) else style)
-    if data.strip(b"0123456789:;"):
-        raise ValueError("style must have only digits, ';' and ':', not {!r}".format(style))
-    return data
-
-
+@_in_c
 def mark(text: str, pattern: str, style: Union[str, "Style"]) -> str:
     """The text with each match of a pattern, as `matches` finds them, in a style, as `restyle` makes it.
 
     >>> mark("to do: \\x1b[1mdo", "do", "7")
     'to \\x1b[7mdo\\x1b[27m: \\x1b[1m\\x1b[7mdo\\x1b[22m\\x1b[27m\\x1b[1m'
     """
-    return _library.mark(_utf8("text", text), _utf8("pattern", pattern), _given_codes(style))  # type: ignore[no-any-return]
 
 
-def _range_from(before: int, start: int, end: int) -> Tuple[int, int]:
-    """A range that begins where the one before it ends, or later."""
-    start, end = _position("start", start), _position("end", end)
-    if start < before:
-        raise ValueError("a range begins before the one before it ends: {} is below {}".format(start, before))
-    if end < start:
-        raise ValueError("the end lies before the start: {} is below {}".format(end, start))
-    return start, end
-
-
+@_in_c
 def restyle(text: str, ranges: Iterable[Tuple[int, int]], style: Union[str, "Style"]) -> str:
     """The text with SGR codes applied to each character in ranges: pairs of positions in order, which don't overlap. The style is
     the codes as an SGR has them, such as `1;31`, or as `codes` makes them, or a `Style`. Each character there has its own style
@@ -710,17 +619,6 @@ def restyle(text: str, ranges: Iterable[Tuple[int, int]], style: Union[str, "Sty
     >>> restyle(log, [match.span() for match in re.finditer("[0-9]+", strip(log))], codes(bold=True))
     '\\x1b[31m\\x1b[1m404\\x1b[22m\\x1b[39m\\x1b[31m\\x1b[39m in \\x1b[1m12\\x1b[22m ms'
     """
-    data, given = _utf8("text", text), _given_codes(style)
-    pairs: List[Tuple[int, int]] = []
-    before = 0
-    for start, end in ranges:
-        start, end = _range_from(before, start, end)
-        pairs.append((start, end))
-        before = end
-    restyled = _library.restyle(data, len(data) == str.__len__(text), tuple(pairs), given)
-    if restyled is None:
-        raise ValueError("a range ends past the end of the plain text: {}".format(before))
-    return restyled  # type: ignore[no-any-return]
 
 
 class Cut(NamedTuple):
@@ -742,7 +640,7 @@ class Right(NamedTuple):
 class Part(NamedTuple):
     """The part of an index, counted from 0, between the matches of a pattern."""
     pattern: str
-    index: int
+    index: int  # type: ignore[assignment]
 
 
 class Prefix(NamedTuple):
@@ -760,27 +658,9 @@ class Trim(NamedTuple):
 
 
 Edit = Union[Cut, Left, Right, Part, Prefix, Suffix, Trim]
-_EDITS = (Cut, Left, Right, Part, Prefix, Suffix, Trim)
 
 
-def _step_of(edit: Edit) -> _Step:
-    if isinstance(edit, Cut):
-        return _cut_step(edit.start, edit.end)
-    if isinstance(edit, Left):
-        return _LEFT, _position("mid", edit.mid), 0, b""
-    if isinstance(edit, Right):
-        return _RIGHT, _position("mid", edit.mid), 0, b""
-    if isinstance(edit, Part):
-        return _PART, _position("index", edit.index), 0, _utf8("pattern", edit.pattern)
-    if isinstance(edit, Prefix):
-        return _PREFIX, 0, 0, _utf8("pattern", edit.pattern)
-    if isinstance(edit, Suffix):
-        return _SUFFIX, 0, 0, _utf8("pattern", edit.pattern)
-    if isinstance(edit, Trim):
-        return _TRIM, 0, 0, b""
-    raise TypeError("edits must hold edits, not {}".format(type(edit).__name__))
-
-
+@_in_c
 def edit(text: str, edits: Union[Edit, Iterable[Edit]]) -> Optional[str]:
     """The text after one edit, or after each edit of a list, tuple or iterator in turn. None if one is refused at its turn: an end
     is below its start, the prefix or suffix isn't there, or there is no such part.
@@ -790,11 +670,6 @@ def edit(text: str, edits: Union[Edit, Iterable[Edit]]) -> Optional[str]:
     >>> edit("red", Prefix("> ")) is None
     True
     """
-    if isinstance(edits, _EDITS):
-        return _edited(text, _step_of(edits))  # type: ignore[no-any-return]
-    if isinstance(edits, (list, tuple, Iterator)):
-        return _edited(text, *map(_step_of, edits))  # type: ignore[no-any-return]
-    raise TypeError("edits must be an edit or a list of edits, not {}".format(type(edits).__name__))
 
 
 class Expand(NamedTuple):
@@ -829,23 +704,9 @@ class Fit(NamedTuple):
 
 
 ColumnEdit = Union[Expand, Slice, Truncate, Pad, Fit]
-_COLUMN_EDITS = (Expand, Slice, Truncate, Pad, Fit)
 
 
-def _column_step_of(edit: ColumnEdit) -> _Step:
-    if isinstance(edit, Expand):
-        return _expand_step(*edit)
-    if isinstance(edit, Slice):
-        return _slice_step(*edit)
-    if isinstance(edit, Truncate):
-        return _truncate_step(*edit)
-    if isinstance(edit, Pad):
-        return _pad_step(*edit)
-    if isinstance(edit, Fit):
-        return _fit_step(*edit)
-    raise TypeError("edits must hold edits by columns, not {}".format(type(edit).__name__))
-
-
+@_in_c
 def edit_columns(text: str, edits: Union[ColumnEdit, Iterable[ColumnEdit]]) -> str:
     """The text after one edit by columns, or after each of a list, tuple or iterator in turn. It is on one line and safe, and
     nothing is open at its end, also if there is no edit but expansions of TABs.
@@ -855,27 +716,18 @@ def edit_columns(text: str, edits: Union[ColumnEdit, Iterable[ColumnEdit]]) -> s
     >>> edit_columns("a\\tbc", [Expand(4), Slice(2)])
     '  bc'
     """
-    if isinstance(edits, _COLUMN_EDITS):
-        steps = [_column_step_of(edits)]
-    elif isinstance(edits, (list, tuple, Iterator)):
-        steps = [_column_step_of(edit) for edit in edits]
-    else:
-        raise TypeError("edits must be an edit by columns or a list of them, not {}".format(type(edits).__name__))
-    if all(kind == _EXPAND_TABS for kind, _, _, _ in steps):
-        # (this makes it safe and closes it; any other edit has done so)
-        steps.append(_pad_step(0, "left"))
-    return _edited(text, *steps)  # type: ignore[no-any-return]
 
 
+@_in_c
 def iter_split(text: str, pattern: str) -> Iterator[str]:
     """An iterator over the parts that `split` returns, each made on demand.
 
     >>> next(iter_split("lion::tiger", "::"))
     'lion'
     """
-    return _library.walk(_utf8("text", text), _utf8("pattern", pattern))  # type: ignore[no-any-return]
 
 
+@_in_c
 def split(text: str, pattern: str) -> List[str]:
     """All parts between the matches of a pattern in the plain text, each with its sequences and in its style. An empty
     pattern matches between any two characters and at both ends.
@@ -883,7 +735,6 @@ def split(text: str, pattern: str) -> List[str]:
     >>> split("\\x1b[31mlion::tiger\\x1b[0m", "::")
     ['\\x1b[31mlion\\x1b[39m', '\\x1b[31mtiger\\x1b[0m']
     """
-    return list(iter_split(text, pattern))
 
 
 class Style(NamedTuple):
@@ -913,10 +764,12 @@ class Style(NamedTuple):
         >>> blocks("\\x1b[1;4m\\x1b[58;5;9mtext")[0].style.codes
         '1;4;58;5;9'
         """
+        set_ones: Any = {name: True for name in self.attributes}
         return codes(foreground=self.foreground, background=self.background, underline_color=self.underline_color,
-                     font=self.font, **{name: True for name in self.attributes})
+                     font=self.font, **set_ones)
 
     @staticmethod
+    @_in_c
     def of(style: Union[str, "Style"]) -> "Style":
         """The style that SGR codes select: as an SGR has them, or as the function `codes` makes them. ValueError: they have anything
         but digits, `;` and `:`.
@@ -924,7 +777,6 @@ class Style(NamedTuple):
         >>> Style.of("1;31").foreground
         'Red'
         """
-        return blocks("\x1b[" + _given_codes(style).decode() + "m" + _CELL)[0].style
 
     def union(self, other: "Style") -> "Style":
         """What is set in either style. A color or a font of the other is taken before that of this one.
@@ -943,8 +795,8 @@ class Style(NamedTuple):
         """
         mine, others = Style.of(self), Style.of(other)
         parts = ("foreground", "background", "underline_color", "font")
-        return Style.of(mine._replace(attributes=mine.attributes - others.attributes,
-                                      **{part: None for part in parts if getattr(mine, part) == getattr(others, part)}).codes)
+        cleared: Any = {part: None for part in parts if getattr(mine, part) == getattr(others, part)}
+        return Style.of(mine._replace(attributes=mine.attributes - others.attributes, **cleared).codes)
 
 
 class Block(NamedTuple):
@@ -971,51 +823,22 @@ def _style_of(data: bytes, start: str, end: str) -> Style:
     return Style(names, colors[0], colors[1], end != "", start, end, colors[2], fields[14] if fields[13] else None)
 
 
-# a character that no sequence before it takes in
-_CELL = "\xe9"
-# the styles of the last blocks, by their bytes
-_STYLES: Dict[bytes, Style] = {}
-_MOST_STYLES = 256
-
-
-def _link_after(link: Optional[str], sequences: str) -> Optional[str]:
-    """The address of the link after sequences, if `link` is open before them."""
-    opened = link_at(sequences + _CELL, 0)
-    if opened is not None:
-        return opened
-    # (they close each link, or have none)
-    return link if link_at("\x1b]8;;-\x1b\\" + sequences + _CELL, 0) else None
-
-
-def _blocks_of(walk: Any) -> Iterator[Block]:
-    link = None
-    for sequences, text, data in walk:
-        if "\x1b]8;" in sequences:
-            link = _link_after(link, sequences)
-        style = _STYLES.get(data)
-        if style is None:
-            if len(_STYLES) >= _MOST_STYLES:
-                _STYLES.clear()
-            style = _STYLES[data] = _style_of(data, *walk.sequences())
-        yield Block(text, style, link, sequences)
-
-
+@_in_c
 def iter_blocks(text: str) -> Iterator[Block]:
     """An iterator over the blocks that `blocks` returns, each made on demand.
 
     >>> next(iter_blocks("\\x1b[31mred\\x1b[39m and plain")).text
     'red'
     """
-    return _blocks_of(_library.walk(_utf8("text", text)))
 
 
+@_in_c
 def blocks(text: str) -> List[Block]:
     """The blocks of the text: its runs, each up to the next sequence of any kind, with their styles.
 
     >>> [(block.text, block.style.foreground) for block in blocks("\\x1b[31mred\\x1b[39m and plain")]
     [('red', 'Red'), (' and plain', None)]
     """
-    return list(iter_blocks(text))
 
 
 class Pen(NamedTuple):
@@ -1027,6 +850,7 @@ class Pen(NamedTuple):
     end: str
 
 
+@_in_c
 def pen_after(text: str) -> Pen:
     """The style and the link that are open at the end of a text. Print `end` there, and `start` before what goes on in them:
 
@@ -1038,6 +862,7 @@ def pen_after(text: str) -> Pen:
     The pen after the second line is `pen_after(pen.start + second)`. `start` doesn't open a link that `sanitize` wouldn't keep, and doesn't
     set again what an unknown SGR code has set.
     """
-    sequences = remove(text, 0, len(strip(text)))
-    _, style, link, _ = blocks(sequences + _CELL)[0]
-    return Pen(style, link, _edited(text, (_PEN_START, 0, 0, b"")), _edited(text, (_PEN_END, 0, 0, b"")))
+
+
+_library.use(_style_of, Style, Block, Pen, Link, abc.Iterator, Cut, Left, Right, Part, Prefix, Suffix, Trim, Expand, Slice, Truncate, Pad,
+             Fit)

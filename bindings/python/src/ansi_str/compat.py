@@ -99,12 +99,12 @@ class TextWrapper(textwrap.TextWrapper):
         return ansi_str.replace_each(text, edits)
 
     def _split(self, text: str) -> List[str]:
-        return [_Text(chunk) for chunk in super()._split(text)]  # type: ignore[misc]
+        return [_Text(chunk) for chunk in super()._split(text)]
 
     def _wrap_chunks(self, chunks: List[str]) -> List[str]:
         self.initial_indent, self.subsequent_indent, self.placeholder = map(
             _Text, (self.initial_indent, self.subsequent_indent, self.placeholder))
-        return super()._wrap_chunks(chunks)  # type: ignore[misc, no-any-return]
+        return super()._wrap_chunks(chunks)
 
     def _handle_long_word(self, reversed_chunks: List[str], cur_line: List[str], cur_len: int, width: int) -> None:
         chunk = reversed_chunks[-1]
