@@ -16,6 +16,7 @@ import textwrap
 import threading
 import typing
 import unittest
+import warnings
 from typing import Iterator
 
 import ansi_str
@@ -53,7 +54,7 @@ def column_edit_of(kind, place, first, second, tail):
     place, first, second = int(place), int(first), int(second)
     made = [lambda: ansi_str.Expand(first), lambda: ansi_str.Slice(first, second),
             lambda: ansi_str.Truncate(first, tail, ansi_str.SIDES[place]), lambda: ansi_str.Pad(first, ansi_str.ALIGNMENTS[place]),
-            lambda: ansi_str.Fit(first, ansi_str.ALIGNMENTS[place], tail)]
+            lambda: ansi_str.Fit(first, tail, ansi_str.ALIGNMENTS[place])]
     return made[int(kind)]()
 
 
@@ -98,7 +99,7 @@ MADE = {
     "front": lambda text, width: [ansi_str.cut(text, 0, ansi_str.fitting(text, int(width)))],
     "truncate": lambda text, width, tail: [ansi_str.truncate(text, int(width), tail)],
     "pad": lambda text, width, word: [ansi_str.pad(text, int(width), word.lower())],
-    "fit": lambda text, width, word, tail: [ansi_str.fit(text, int(width), word.lower(), tail)],
+    "fit": lambda text, width, word, tail: [ansi_str.fit(text, int(width), tail, alignment=word.lower())],
     "truncate_with": lambda text, width, tail, word: [ansi_str.truncate(text, int(width), tail, side=word.lower())],
     "slice": lambda text, start, end: [ansi_str.slice_columns(text, int(start), int(end))],
     "expand_tabs": lambda text, stop: [ansi_str.expand_tabs(text, int(stop))],
@@ -240,7 +241,9 @@ CALLS = {"strip": [], "cut": [0], "left": [0], "right": [0], "part": [",", 0], "
          "expand_tabs": [8], "wrap": [1], "lines": [1], "iter_lines": [1], "find": [""], "starts_with": [""], "ends_with": [""], "has_any": [], "is_whole": [], "split": [","],
          "iter_split": [","], "blocks": [], "iter_blocks": [], "pen_after": [], "edit": [[]], "edit_columns": [[]], "sanitize": [], "is_safe": [], "link_at": [0],
          "matches": ["a"], "find_from": [0, "a"], "restyle": [[(0, 0)], "1"], "mark": ["a", "1"], "remove": [0, 0],
-         "replace": [0, 0, "b"], "insert": [0, "b"], "replace_all": ["a", "b"], "replace_each": [[]], "link": [0, 0, "b"], "unlink": [], "links": []}
+         "replace": [0, 0, "b"], "insert": [0, "b"], "replace_all": ["a", "b"], "replace_each": [[]], "link": [0, 0, "b"], "unlink": [], "links": [], "styled": ["1"], "widest_line": []}
+# those that Python makes of others
+COMPOSED = ["styled", "widest_line"]
 PATTERNED = ["matches", "mark", "replace_all", "part", "strip_prefix", "strip_suffix", "find", "starts_with", "ends_with", "split", "iter_split"]
 HUGE = [2**31, 2**63 - 1, 2**63, 2**64 - 1, 2**64, 2**64 + 1, 2**200]
 
@@ -252,7 +255,7 @@ class Arguments(unittest.TestCase):
         self.assertIn(words, str(caught.exception))
 
     def test_all(self):
-        functions = {name for name in ansi_str.__all__ if name[0].islower()} - {"codes"}
+        functions = {name for name in ansi_str.__all__ if name[0].islower()} - {"codes", "rgb_of"}
         self.assertEqual(functions, set(CALLS))
         for name in ansi_str.__all__ + ["__version__"]:
             getattr(ansi_str, name)
@@ -309,12 +312,13 @@ class Arguments(unittest.TestCase):
                     self.refused(kind, "mid " + words, ansi_str.edit, text, step(wrong))
         self.refused(TypeError, "start must be an int, not NoneType", ansi_str.cut, "abc", None)
         self.refused(TypeError, "tail must be a str, not bytes", ansi_str.truncate, "abc", 1, b"")
-        self.refused(TypeError, "tail must be a str, not bytes", ansi_str.fit, "abc", 1, "left", b"")
+        self.refused(TypeError, "tail must be a str, not bytes", ansi_str.fit, "abc", 1, b"")
         self.refused(TypeError, "first_indent must be a str, not bytes", ansi_str.wrap, "abc", 1, b"")
         self.refused(TypeError, "indent must be a str, not bytes", ansi_str.wrap, "abc", 1, "", b"")
         for wrong in ("Left", "", None, 0):
             for call in (ansi_str.pad, ansi_str.fit):
-                self.refused(ValueError, "alignment must be one of left, center, right", call, "abc", 1, wrong)
+                with self.assertRaisesRegex(ValueError, "alignment must be one of left, center, right"):
+                    call("abc", 1, alignment=wrong)
             self.refused(ValueError, "side must be one of end, start, middle", ansi_str.truncate, "abc", 1, "", wrong)
 
     def test_a_range_or_a_style_that_is_none(self):
@@ -376,7 +380,7 @@ class Arguments(unittest.TestCase):
             self.assertEqual(ansi_str.codes(**{name: True}), str(code))
             self.assertEqual(style_after(ansi_str.codes(**{name: True})).attributes, {name})
         for index, name in enumerate(ansi_str.COLORS):
-            for word in (name, name.lower(), re.sub("(?<=.)(?=[A-Z])", "_", name).lower()):
+            for word in (name, name.replace("_", ""), name.title().replace("_", ""), name.upper()):
                 self.assertEqual(style_after(ansi_str.codes(foreground=word))[1:3], (name, None))
                 self.assertEqual(style_after(ansi_str.codes(background=word))[1:3], (None, name))
                 self.assertEqual(ansi_str.codes(underline_color=word), "58;5;%d" % index)
@@ -384,13 +388,60 @@ class Arguments(unittest.TestCase):
             self.assertEqual(style_after(ansi_str.codes(foreground=color, background=color))[1:3], (color, color))
         self.assertEqual(ansi_str.codes(underline_color=255, font=11, bold=True, faint=False), "1;11;58;5;255")
         self.assertEqual([ansi_str.codes(), ansi_str.codes(bold=False), ansi_str.codes(font=10)], ["", "", "10"])
-        self.refused(TypeError, "there is no attribute 'bald'", lambda: ansi_str.codes(bald=True))
+        self.refused(TypeError, "unexpected keyword argument 'bald'", lambda: ansi_str.codes(bald=True))
+        self.assertEqual([name for name in inspect.signature(ansi_str.codes).parameters if name in ansi_str.ATTRIBUTES], [*ansi_str.ATTRIBUTES])
         self.refused(ValueError, "font must be from 10 to 19, not 20", lambda: ansi_str.codes(font=20))
         self.refused(ValueError, "foreground must be one of black, red", lambda: ansi_str.codes(foreground="purple"))
         self.refused(ValueError, "foreground is above 255: 256", lambda: ansi_str.codes(foreground=256))
         self.refused(ValueError, "background is below 0: -1", lambda: ansi_str.codes(background=(0, -1, 0)))
         self.refused(ValueError, "background must have three numbers, not 2", lambda: ansi_str.codes(background=(0, 0)))
         self.refused(TypeError, "underline_color must be an int, not float", lambda: ansi_str.codes(underline_color=1.0))
+
+    def test_old_names_and_orders(self):
+        def warned(call, *given, **named):
+            with self.assertWarns(DeprecationWarning) as caught:
+                got = call(*given, **named)
+            self.assertEqual(caught.filename, __file__)
+            return got
+
+        self.assertEqual(warned(ansi_str.codes, crossedout=True), ansi_str.codes(crossed_out=True))
+        with self.assertWarns(DeprecationWarning):
+            self.assertEqual(style_after("1")._replace(attributes={"crossedout"}).codes, "9")
+        wanted = ansi_str.fit("abcdef", 4, "..", alignment="right")
+        self.assertEqual(warned(ansi_str.fit, "abcdef", 4, "right", ".."), wanted)
+        self.assertEqual(warned(ansi_str.fit, "abcdef", 4, "right", tail=".."), wanted)
+        self.assertEqual(warned(ansi_str.fit, "a", 4, "right"), "   a")
+        self.assertEqual(ansi_str.fit("abcdef", 4, alignment="right", tail=".."), wanted)
+        # (a tail that is the name of an alignment has to be given by its own, or with an alignment)
+        self.assertEqual([ansi_str.fit("abcdef", 5, tail="left"), ansi_str.fit("abcdef", 5, "left", alignment="left")], ["aleft", "aleft"])
+        self.refused(TypeError, "takes from 2 to 3 positional arguments but 4 were given", ansi_str.fit, "a", 4, "..", "right")
+        with warnings.catch_warnings():
+            warnings.simplefilter("error")
+            self.assertRaises(DeprecationWarning, ansi_str.fit, "a", 4, "right")
+            self.assertEqual(ansi_str.Fit(4, "..", "right"), (4, "..", "right"))
+            self.assertEqual(pickle.loads(pickle.dumps(ansi_str.Fit(4, "left", "right"))), (4, "left", "right"))
+        self.assertEqual(warned(ansi_str.Fit, 4, "right", ".."), ansi_str.Fit(4, "..", "right"))
+        self.assertEqual(warned(ansi_str.Fit, 4, "right"), ansi_str.Fit(4, alignment="right"))
+
+    def test_colors_as_rgb(self):
+        for number in (*range(16, 256, 7), 16, 231, 232, 255):
+            red, green, blue = ansi_str.rgb_of(number)
+            if number < 232:
+                levels = [0 if level == 0 else (level - 55) // 40 for level in (red, green, blue)]
+                self.assertEqual(16 + 36 * levels[0] + 6 * levels[1] + levels[2], number)
+            else:
+                self.assertEqual((red, green, blue), (8 + 10 * (number - 232),) * 3)
+        self.assertEqual([ansi_str.rgb_of(name) for name in ansi_str.COLORS], [ansi_str.rgb_of(number) for number in range(16)])
+        self.assertEqual(ansi_str.rgb_of("BrightBlue"), (92, 92, 255))
+        self.refused(ValueError, "color is above 255: 256", ansi_str.rgb_of, 256)
+        self.refused(ValueError, "color must be one of black, red", ansi_str.rgb_of, "purple")
+
+    def test_the_whole_text(self):
+        for text, columns in (("", 0), ("\x1b[1mr\xe9d\x1b[0m, \u65e5", 7), ("a\n\n\x1b]8;;u\x07\u65e5\x1b]8;;\x07b\r\nc", 3), ("\x1b]0;a\nb\x07c", 1)):
+            self.assertEqual(ansi_str.widest_line(text), columns)
+            shown = ansi_str.styled(text, "4")
+            self.assertEqual(ansi_str.strip(shown), ansi_str.strip(text))
+            self.assertTrue(all("underline" in block.style.attributes for block in ansi_str.blocks(shown)))
 
     def test_styles_by_codes_and_of_two(self):
         of = ansi_str.Style.of
@@ -411,7 +462,7 @@ class Arguments(unittest.TestCase):
 
     def test_a_style_is_codes(self):
         style = style_after("3;1m\x1b[34;58;2;1;2;3m\x1b[12;45")
-        self.assertEqual(style, ({"bold", "italic"}, "Blue", "Magenta", True, "\x1b[1m\x1b[3m\x1b[12m\x1b[34m\x1b[45m\x1b[58;2;1;2;3m",
+        self.assertEqual(style, ({"bold", "italic"}, "blue", "magenta", True, "\x1b[1m\x1b[3m\x1b[12m\x1b[34m\x1b[45m\x1b[58;2;1;2;3m",
                                  "\x1b[10m\x1b[22m\x1b[23m\x1b[39m\x1b[49m\x1b[59m", (1, 2, 3), 12))
         self.assertEqual(style.codes, "1;3;12;34;45;58;2;1;2;3")
         self.assertEqual(style_after(style.codes), style)
@@ -501,13 +552,13 @@ class Arguments(unittest.TestCase):
         # (the codes of ECMA-48, 73 and 74 of mintty)
         codes = dict(zip((1, 2, 3, 4, 21, 5, 6, 7, 8, 9, 51, 52, 20, 26, 53, 60, 61, 62, 63, 64, 73, 74), ansi_str.ATTRIBUTES))
         self.assertEqual([codes[code] for code in (1, 21, 9, 20, 53, 64, 74)],
-                         ["bold", "double_underline", "crossedout", "fraktur", "overlined", "ideogram_stress_marking", "subscript"])
+                         ["bold", "double_underline", "crossed_out", "fraktur", "overlined", "ideogram_stress_marking", "subscript"])
         for code, name in codes.items():
             self.assertEqual(style_after(code)[:4], ({name}, None, None, True))
         self.assertEqual(style_after(0)[:4], (set(), None, None, False))
         self.assertEqual(style_after("0;99")[:4], (set(), None, None, True))
-        for digit, name in enumerate(("Black", "Red", "Green", "Yellow", "Blue", "Magenta", "Cyan", "White")):
-            for code, color in ((30, name), (90, "Bright" + name)):
+        for digit, name in enumerate(("black", "red", "green", "yellow", "blue", "magenta", "cyan", "white")):
+            for code, color in ((30, name), (90, "bright_" + name)):
                 self.assertEqual(style_after(code + digit)[:4], (set(), color, None, True))
                 self.assertEqual(style_after(code + digit + 10)[:4], (set(), None, color, True))
         self.assertEqual(style_after("38;5;200;48;2;1;2;3")[1:3], (200, (1, 2, 3)))
@@ -554,7 +605,7 @@ class Arguments(unittest.TestCase):
         link, link_end = "\x1b]8;id=1;http://x\x1b\\", "\x1b]8;;\x1b\\"
         pen = ansi_str.pen_after("\x1b[1;31mred " + link + "li")
         self.assertEqual(pen[1:], ("http://x", "\x1b[1m\x1b[31m" + link, link_end + "\x1b[22m\x1b[39m"))
-        self.assertEqual((pen.style.attributes, pen.style.foreground), ({"bold"}, "Red"))
+        self.assertEqual((pen.style.attributes, pen.style.foreground), ({"bold"}, "red"))
         for text in ("", "plain", "\x1b[31mred\x1b[0m", link + "a" + link_end, "\x1b[2J\x1b", "a\x1b[3", "a\x1b]8;;http://x"):
             self.assertEqual(ansi_str.pen_after(text)[1:], (None, "", ""))
         # each line sets what is open before it, and closes what it leaves open
@@ -648,8 +699,8 @@ class Module(unittest.TestCase):
         return made[name]
 
     def test_wrong_counts_and_names(self):
-        for name, more in CALLS.items():
-            call, python = getattr(ansi_str, name), self.python_of(name)
+        for name in set(CALLS) - set(COMPOSED):
+            call, more, python = getattr(ansi_str, name), CALLS[name], self.python_of(name)
             words = list(inspect.signature(call).parameters.values())
             named = {word.name: True for word in words if word.kind == word.KEYWORD_ONLY}
             for given, names in (((), {}), (("",), {"zzz": 1}), (("",), {"text": ""}), ([""] * 5, {}), ([""] * 5, named), ((), named), ((), {"text": ""}),
@@ -686,7 +737,7 @@ class Module(unittest.TestCase):
     def test_they_are_functions_of_the_package(self):
         for name in CALLS:
             call = getattr(ansi_str, name)
-            self.assertTrue(inspect.isbuiltin(call), name)
+            self.assertEqual(inspect.isbuiltin(call), name not in COMPOSED, name)
             self.assertEqual((call.__name__, call.__qualname__, call.__module__), (name, name, "ansi_str"))
             self.assertIs(pickle.loads(pickle.dumps(call)), call)
             self.assertIn(">>> ", call.__doc__)

@@ -14,7 +14,7 @@ TEXTS = ["", "red, fox", "\x1b[1;31mred\x1b]0;t\x07, \x1b[4m\tfox\x1b[0m", "\x1b
          "\x1b]8;;u\x07r\u00e9d" * 20]
 # the calls, and what follows the text
 CALLS = [("strip",), ("cut", 1, 4), ("left", 3), ("right", 3), ("part", ",", 1), ("strip_prefix", "r"), ("strip_suffix", "x"), ("trim",), ("width",), ("fitting", 3),
-         ("column_of", 3), ("truncate", 3, "..."), ("pad", 300, "center"), ("fit", 3, "left", "..."), ("slice_columns", 1, 5), ("expand_tabs", 4), ("wrap", 4),
+         ("column_of", 3), ("truncate", 3, "..."), ("pad", 300, "center"), ("fit", 3, "..."), ("slice_columns", 1, 5), ("expand_tabs", 4), ("wrap", 4),
          ("wrap", 4, "* ", "  "), ("lines", 1), ("link_at", 1), ("find", "o"), ("find_from", 1, "o"), ("matches", ""), ("matches", ","), ("matches", "z"),
          ("starts_with", "o"), ("ends_with", "o"), ("has_any",), ("is_whole",), ("mark", "e", "1"), ("remove", 1, 3), ("replace", 1, 3, "\x1b[1mn"),
          ("insert", 1, "n\u00e9"), ("replace_all", "e", "\x1b[1mnew"), ("link", 1, 3, "u"), ("unlink",), ("links",), ("is_safe",), ("split", ""), ("split", ","),

@@ -68,7 +68,10 @@ def _platform(module, settings):
 def _module():
     with tempfile.TemporaryDirectory() as folder:
         name = os.path.join(folder, "_ansi_str.abi3.so")
-        subprocess.run([os.path.join(HERE, "build"), name], check=True, env=dict(os.environ, PYTHON=sys.executable))
+        built = subprocess.run([os.path.join(HERE, "build"), name], env=dict(os.environ, PYTHON=sys.executable))
+        if built.returncode != 0:
+            # (`build` has said what is missing)
+            sys.exit(built.returncode)
         return _read(name)
 
 

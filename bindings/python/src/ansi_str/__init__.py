@@ -23,7 +23,7 @@ The calls, each of which has an example in its own help, such as `help(ansi_str.
     strip_suffix(text, pattern)        fitting(text, width)
     part(text, pattern, index)         truncate(text, width, tail='', side='end')
     split(text, pattern)               pad(text, width, alignment='left')
-    iter_split(text, pattern)          fit(text, width, alignment='left', tail='')
+    iter_split(text, pattern)          fit(text, width, tail='', *, alignment='left')
     blocks(text)                       wrap(text, width, first_indent='', indent='')
     iter_blocks(text)                  edit(text, edits)
     link_at(text, position)            is_safe(text, *, links=False)
@@ -37,7 +37,8 @@ The calls, each of which has an example in its own help, such as `help(ansi_str.
     replace_all(text, pattern, new)    replace_each(text, replacements)
     link(text, start, end, address)    unlink(text)
     links(text)                        pen_after(text)
-    edit_columns(text, edits)
+    edit_columns(text, edits)          styled(text, style)
+    rgb_of(color)                      widest_line(text)
 
 The classes, each with a help of its own: `Block` and `Style`, which `blocks` returns, `Link`, which `links` returns, `Pen`, which
 `pen_after` returns; the edits `Cut`, `Left`, `Right`, `Part`, `Prefix`, `Suffix` and `Trim`; and the edits by columns `Expand`,
@@ -58,6 +59,7 @@ import operator
 import os
 import struct
 import sys
+import warnings
 from collections import abc
 from importlib.machinery import ExtensionFileLoader
 from importlib.util import module_from_spec, spec_from_file_location
@@ -67,10 +69,11 @@ __version__ = "0.2.0"
 # (without the types: `help` would show a hundred lines for each class, all before the first function)
 __all__ = [
     "strip", "cut", "left", "right", "part", "strip_prefix", "strip_suffix", "trim",
-    "width", "fitting", "column_of", "truncate", "pad", "fit", "slice_columns", "expand_tabs", "wrap", "lines", "iter_lines", "link_at",
+    "width", "fitting", "column_of", "truncate", "pad", "fit", "slice_columns", "expand_tabs", "wrap", "lines", "iter_lines",
+    "widest_line", "link_at",
     "ALIGNMENTS", "SIDES",
     "find", "find_from", "matches", "starts_with", "ends_with", "has_any", "is_whole",
-    "mark", "restyle", "remove", "codes",
+    "mark", "restyle", "styled", "remove", "codes", "rgb_of",
     "replace", "insert", "replace_all", "replace_each", "link", "unlink", "links",
     "sanitize", "is_safe",
     "split", "iter_split", "blocks", "iter_blocks", "pen_after", "ATTRIBUTES", "COLORS",
@@ -78,12 +81,12 @@ __all__ = [
 ]
 
 # the attributes by their bits, and the colors that codes name by their last digits, and the same bright
-ATTRIBUTES = ("bold", "faint", "italic", "underline", "double_underline", "slow_blink", "rapid_blink", "inverse", "hide", "crossedout",
+ATTRIBUTES = ("bold", "faint", "italic", "underline", "double_underline", "slow_blink", "rapid_blink", "inverse", "hide", "crossed_out",
               "framed", "encircled", "fraktur", "proportional_spacing", "overlined", "ideogram_underline",
               "ideogram_double_underline", "ideogram_overline", "ideogram_double_overline", "ideogram_stress_marking",
               "superscript", "subscript")
-COLORS = ("Black", "Red", "Green", "Yellow", "Blue", "Magenta", "Cyan", "White",
-          "BrightBlack", "BrightRed", "BrightGreen", "BrightYellow", "BrightBlue", "BrightMagenta", "BrightCyan", "BrightWhite")
+COLORS = ("black", "red", "green", "yellow", "blue", "magenta", "cyan", "white", "bright_black", "bright_red", "bright_green",
+          "bright_yellow", "bright_blue", "bright_magenta", "bright_cyan", "bright_white")
 ALIGNMENTS = ("left", "center", "right")
 SIDES = ("end", "start", "middle")
 _NO_COLOR, _NAMED, _FIXED = 0, 1, 2
@@ -341,12 +344,6 @@ def column_of(text: str, position: int) -> int:
     """
 
 
-def _index(name: str, word: str, words: Tuple[str, ...]) -> int:
-    if word not in words:
-        raise ValueError("{} must be one of {}, not {!r}".format(name, ", ".join(words), word))
-    return words.index(word)
-
-
 @_in_c
 def truncate(text: str, width: int, tail: str = "", side: Side = "end") -> str:
     """The text truncated to `width` columns, on one line and safe: SGRs, clean links (OSC 8) and printing characters stay, TAB
@@ -374,11 +371,12 @@ def pad(text: str, width: int, alignment: Alignment = "left") -> str:
 
 
 @_in_c
-def fit(text: str, width: int, alignment: Alignment = "left", tail: str = "") -> str:
-    """The text of a table's cell: truncated to `width` columns, as by `truncate`, and then padded to them, as by `pad`.
+def fit(text: str, width: int, tail: str = "", *, alignment: Alignment = "left") -> str:
+    """The text of a table's cell: truncated to `width` columns, as by `truncate`, and then padded to them, as by `pad`. (An alignment
+    in the place of the tail is still one, and the tail may follow it, with a DeprecationWarning.)
 
-    >>> fit("\\x1b[41mab", 4), fit("\\x1b[41mabcdef", 4, tail="…")
-    ('\\x1b[41mab\\x1b[49m  ', '\\x1b[41mabc\\x1b[49m…')
+    >>> fit("\\x1b[41mab", 4), fit("\\x1b[41mabcdef", 4, "…"), fit("12", 4, alignment="right")
+    ('\\x1b[41mab\\x1b[49m  ', '\\x1b[41mabc\\x1b[49m…', '  12')
     """
 
 
@@ -435,6 +433,15 @@ def iter_lines(text: str, width: int) -> Iterator[Tuple[int, int]]:
     >>> next(iter_lines("ab \\x1b[1mcd  efg", 5))
     (0, 5)
     """
+
+
+def widest_line(text: str) -> int:
+    """The display width of the widest line of the text, whose lines end at line feeds.
+
+    >>> widest_line("a\\n\\x1b[31m日本\\nbcd")
+    4
+    """
+    return max(map(width, split(text, "\n")))
 
 
 @_in_c
@@ -552,14 +559,21 @@ def _byte(name: str, number: int) -> int:
     return number
 
 
+def _color_index(name: str, color: str) -> int:
+    """Which of COLORS a name is, in any case and with or without `_`."""
+    for index, each in enumerate(COLORS):
+        if each.replace("_", "") == color.replace("_", "").lower():
+            return index
+    raise ValueError("{} must be one of {}, not {!r}".format(name, ", ".join(COLORS), color))
+
+
 def _color_codes(name: str, color: Optional[Color], first: Optional[int], extended: int) -> List[str]:
     """The code of a color. Those of eight names are from `first` on, and of their bright ones 60 above; if there is none, or for
     another color, it comes after the code `extended`."""
     if color is None:
         return []
     if isinstance(color, str):
-        names = [each.lower() for each in COLORS]
-        index = _index(name, color.replace("_", "").lower(), tuple(names))
+        index = _color_index(name, color)
         if first is not None:
             return [str(first + index % 8 + (60 if index >= 8 else 0))]
         return ["{};5;{}".format(extended, index)]
@@ -571,18 +585,25 @@ def _color_codes(name: str, color: Optional[Color], first: Optional[int], extend
 
 
 def codes(*, foreground: Optional[Color] = None, background: Optional[Color] = None, underline_color: Optional[Color] = None,
-          font: Optional[int] = None, **attributes: bool) -> str:
+          font: Optional[int] = None, bold: bool = False, faint: bool = False, italic: bool = False, underline: bool = False,
+          double_underline: bool = False, slow_blink: bool = False, rapid_blink: bool = False, inverse: bool = False, hide: bool = False,
+          crossed_out: bool = False, framed: bool = False, encircled: bool = False, fraktur: bool = False,
+          proportional_spacing: bool = False, overlined: bool = False, ideogram_underline: bool = False,
+          ideogram_double_underline: bool = False, ideogram_overline: bool = False, ideogram_double_overline: bool = False,
+          ideogram_stress_marking: bool = False, superscript: bool = False, subscript: bool = False, crossedout: bool = False) -> str:
     """The SGR codes of a style by names, for `mark` and `restyle`: of attributes, which are those of ATTRIBUTES, colors and a font.
     A color is a name of COLORS, in any case and with or without `_`, a number among 256, or red, green and blue. The font is its
-    code, from 10 to 19. An attribute that is false has no code.
+    code, from 10 to 19. An attribute that is false has no code. (`crossedout` is the old name of `crossed_out`, with a
+    DeprecationWarning.)
 
     >>> codes(bold=True, foreground="red"), codes(background=208), codes(underline=True, underline_color=(97, 175, 239))
     ('1;31', '48;5;208', '4;58;2;97;175;239')
     """
-    for name in attributes:
-        if name not in ATTRIBUTES:
-            raise TypeError("there is no attribute {!r}: they are {}".format(name, ", ".join(ATTRIBUTES)))
-    given = [str(code) for name, code in zip(ATTRIBUTES, _CODES) if attributes.get(name)]
+    set_ones = locals()
+    if crossedout:
+        warnings.warn("the attribute crossedout is called crossed_out", DeprecationWarning, stacklevel=2)
+        set_ones["crossed_out"] = True
+    given = [str(code) for name, code in zip(ATTRIBUTES, _CODES) if set_ones[name]]
     if font is not None:
         if not 10 <= _position("font", font) <= 19:
             raise ValueError("font must be from 10 to 19, not {}".format(font))
@@ -591,6 +612,30 @@ def codes(*, foreground: Optional[Color] = None, background: Optional[Color] = N
     given += _color_codes("background", background, 40, 48)
     given += _color_codes("underline_color", underline_color, None, 58)
     return ";".join(given)
+
+
+# the levels of red, green and blue of the 216 colors after the first sixteen; and these, as xterm shows them by default
+_LEVELS = (0, 95, 135, 175, 215, 255)
+_SIXTEEN = ((0, 0, 0), (205, 0, 0), (0, 205, 0), (205, 205, 0), (0, 0, 238), (205, 0, 205), (0, 205, 205), (229, 229, 229),
+            (127, 127, 127), (255, 0, 0), (0, 255, 0), (255, 255, 0), (92, 92, 255), (255, 0, 255), (0, 255, 255), (255, 255, 255))
+
+
+def rgb_of(color: Color) -> Tuple[int, int, int]:
+    """The red, green and blue of a color of `codes` or of a style. A terminal may show the first sixteen in its own way; here they are
+    those of xterm.
+
+    >>> rgb_of("red"), rgb_of(208), rgb_of((1, 2, 3))
+    ((205, 0, 0), (255, 135, 0), (1, 2, 3))
+    """
+    if isinstance(color, tuple):
+        red, green, blue = (_byte("color", number) for number in color)
+        return red, green, blue
+    number = _color_index("color", color) if isinstance(color, str) else _byte("color", color)
+    if number < 16:
+        return _SIXTEEN[number]
+    if number < 232:
+        return _LEVELS[(number - 16) // 36], _LEVELS[(number - 16) // 6 % 6], _LEVELS[(number - 16) % 6]
+    return (8 + 10 * (number - 232),) * 3
 
 
 @_in_c
@@ -619,6 +664,15 @@ def restyle(text: str, ranges: Iterable[Tuple[int, int]], style: Union[str, "Sty
     >>> restyle(log, [match.span() for match in re.finditer("[0-9]+", strip(log))], codes(bold=True))
     '\\x1b[31m\\x1b[1m404\\x1b[22m\\x1b[39m\\x1b[31m\\x1b[39m in \\x1b[1m12\\x1b[22m ms'
     """
+
+
+def styled(text: str, style: Union[str, "Style"]) -> str:
+    """The whole text in a style, as `restyle` makes it.
+
+    >>> styled("red \\x1b[1mand bold", codes(foreground="red"))
+    '\\x1b[31mred \\x1b[39m\\x1b[1m\\x1b[31mand bold\\x1b[22m\\x1b[39m\\x1b[1m'
+    """
+    return restyle(text, [(0, str.__len__(strip(text)))], style)
 
 
 class Cut(NamedTuple):
@@ -696,11 +750,22 @@ class Pad(NamedTuple):
     alignment: Alignment = "left"
 
 
-class Fit(NamedTuple):
-    """The text truncated and then padded, as by `fit`."""
+class _Fit(NamedTuple):
     width: int
-    alignment: Alignment = "left"
     tail: str = ""
+    alignment: Alignment = "left"
+
+
+class Fit(_Fit):
+    """The text truncated and then padded, as by `fit`. (An alignment before the tail is still one, with a DeprecationWarning.)"""
+    __slots__ = ()
+
+    def __new__(cls, width: int, tail: str = "", alignment: Alignment = "left") -> "Fit":
+        given: Any = alignment
+        if tail in ALIGNMENTS and (given == "left" or given not in ALIGNMENTS):
+            warnings.warn("Fit takes the tail before the alignment", DeprecationWarning, stacklevel=2)
+            tail, given = "" if given == "left" else given, tail
+        return super().__new__(cls, width, tail, given)
 
 
 ColumnEdit = Union[Expand, Slice, Truncate, Pad, Fit]
@@ -775,7 +840,7 @@ class Style(NamedTuple):
         but digits, `;` and `:`.
 
         >>> Style.of("1;31").foreground
-        'Red'
+        'red'
         """
 
     def union(self, other: "Style") -> "Style":
@@ -837,7 +902,7 @@ def blocks(text: str) -> List[Block]:
     """The blocks of the text: its runs, each up to the next sequence of any kind, with their styles.
 
     >>> [(block.text, block.style.foreground) for block in blocks("\\x1b[31mred\\x1b[39m and plain")]
-    [('red', 'Red'), (' and plain', None)]
+    [('red', 'red'), (' and plain', None)]
     """
 
 

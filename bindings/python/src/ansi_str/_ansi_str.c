@@ -644,8 +644,14 @@ static bool read_padding(PyObject *const *words, Step *step) {
 }
 
 static bool read_fit(PyObject *const *words, Step *step) {
-    return read_width(words[0], step) && read_word("alignment", words[1], ALIGNMENTS, &step->place) &&
-           read_optional("tail", words[2], &step->with);
+    return read_width(words[0], step) && read_word("alignment", words[2], ALIGNMENTS, &step->place) &&
+           read_optional("tail", words[1], &step->with);
+}
+
+/* (in the order that it had) */
+static bool read_old_fit(PyObject *const *words, Step *step) {
+    PyObject *const in_order[] = {words[0], words[2], words[1]};
+    return read_fit(in_order, step);
 }
 
 /* an edit: how it is read, and how many arguments it has */
@@ -729,7 +735,8 @@ CALL(trim, edited, 1, 1, 1, {"text"}, .kind = ANSI_STR_EDIT_TRIM, .write = write
 static PyObject *edited_by_columns(const Form *form, const Given *given) {
     Call call;
     PyObject *result = NULL;
-    if (begin(&call, form, given) && COLUMN_EDITS[form->kind].read(call.words + 1, &call.step) && read_first(&call)) {
+    Reader *read = form->read == NULL ? COLUMN_EDITS[form->kind].read : form->read;
+    if (begin(&call, form, given) && read(call.words + 1, &call.step) && read_first(&call)) {
         result = made(&call);
     }
     return ended(&call, result);
@@ -739,7 +746,31 @@ CALL(expand_tabs, edited_by_columns, 2, 1, 2, {"text", "stop"}, .kind = ANSI_STR
 CALL(slice_columns, edited_by_columns, 3, 1, 3, {"text", "start", "end"}, .kind = ANSI_STR_COLUMNS_SLICE, .write = write_columns)
 CALL(truncate, edited_by_columns, 4, 2, 4, {"text", "width", "tail", "side"}, .kind = ANSI_STR_COLUMNS_TRUNCATE, .write = write_columns)
 CALL(pad, edited_by_columns, 3, 2, 3, {"text", "width", "alignment"}, .kind = ANSI_STR_COLUMNS_PAD, .write = write_columns)
-CALL(fit, edited_by_columns, 4, 2, 4, {"text", "width", "alignment", "tail"}, .kind = ANSI_STR_COLUMNS_FIT, .write = write_columns)
+
+/* Whether a call of `fit` has an alignment in the place of the tail, as it had before. */
+static bool is_old_fit(const Given *given) {
+    Py_ssize_t at, named = given->names == NULL ? 0 : PyTuple_Size(given->names);
+    for (at = 0; at < named; at++) {
+        if (PyUnicode_CompareWithASCIIString(PyTuple_GetItem(given->names, at), "alignment") == 0) {
+            return false;
+        }
+    }
+    return given->count > 2 && place_of(given->words[2], ALIGNMENTS) < PLACES;
+}
+
+static PyObject *fitted(const Form *form, const Given *given) {
+    static const Form OLD = {.name = "fit", .all = 4, .required = 2, .unnamed = 4, .words = {"text", "width", "alignment", "tail"},
+                             .kind = ANSI_STR_COLUMNS_FIT, .read = read_old_fit, .write = write_columns};
+    if (!is_old_fit(given)) {
+        return edited_by_columns(form, given);
+    }
+    if (PyErr_WarnEx(PyExc_DeprecationWarning, "fit(text, width, tail) takes the alignment by its name", 1) < 0) {
+        return NULL;
+    }
+    return edited_by_columns(&OLD, given);
+}
+
+CALL(fit, fitted, 4, 2, 3, {"text", "width", "tail", "alignment"}, .kind = ANSI_STR_COLUMNS_FIT, .write = write_columns)
 
 /* ---- Other calls that make a text ---- */
 
