@@ -908,6 +908,10 @@ static PyObject *linked(const Form *form, const Given *given) {
     if (is_read && !is_address(&call.step.with)) {
         PyErr_Format(PyExc_ValueError, "address must be printable ASCII, and not empty, not %R", call.words[3]);
         is_read = false;
+    } else if (is_read && call.step.with.size > ANSI_STR_LONGEST_ADDRESS) {
+        PyErr_Format(PyExc_ValueError, "address must have at most %d characters, not %zd", ANSI_STR_LONGEST_ADDRESS,
+                     (Py_ssize_t)call.step.with.size);
+        is_read = false;
     }
     return ended(&call, is_read && read_range(&call) ? ranged(&call) : NULL);
 }
