@@ -1,4 +1,5 @@
 pub mod FirstFitLawLemmas
+pub mod ShownGapLemmas
 pub mod ScreenLawLemmas
 pub mod FittedLawLemmas
 pub mod SidesLawLemmas

@@ -14,3 +14,4 @@ pub use Rattle.ansi_cells.specs.Addresses
 pub use Rattle.ansi_cells.specs.Tabs
 pub use Rattle.ansi_clusters.specs.LineWalks
 pub mod Edits
+pub mod ShownLines

@@ -16,9 +16,11 @@ ghost use Rattle.ansi_cells.specs.declared.sides.Side.{Side};
 ghost use Rattle.ansi_cells.specs.Addresses.{linked, without_link};
 ghost use Rattle.ansi_clusters.specs.Columns.{clusters, columns, FitsUpTo, IsClusterBoundary};
 ghost use Rattle.ansi_clusters.specs.Columns.{shown, ShowsUpTo};
-ghost use Rattle.ansi_clusters.specs.FirstFit.{IsFirstFit};
+ghost use Rattle.ansi_clusters.specs.FirstFit.{IsFirstFit, AreShownLines};
 ghost use Rattle.ansi_cells.specs.Fitted.{fitted};
 ghost use Rattle.ansi_clusters.specs.Lines.{lines, AreLinesFrom, BeginWithBlanks, reassembled};
+ghost use Rattle.ansi_clusters.specs.Lines.{shown_lines};
+ghost use Rattle.ansi_columns.specs.ShownLines.{AreShownLinesFrom, BeginWithShownBlanks};
 ghost use Rattle.ansi_safe.specs.Cells.{cell, paragraph};
 ghost use Rattle.ansi_safe.specs.Links.{link_of, IsClosed};
 ghost use Rattle.ansi_cells.specs.Shown.{has_tail, truncated_end, truncated, KeptStays, missing};
@@ -78,6 +80,21 @@ pub fn lines_lose_blanks_and_line_ends()
     ensures begin { (x : List ℕ) (width : ℕ) → IsUtf8 x → BeginWithBlanks x (lines width x) }
     ensures left_out { (x : List ℕ) (width : ℕ) → IsUtf8 x → AreLinesFrom x 0 (lines width x) }
     ensures text { (x : List ℕ) (width : ℕ) → IsUtf8 x → reassembled x 0 (lines width x) ≡ x }
+{}
+
+/// The lines of what is shown of a text (`Lines`) are stretches of its plain text, in order. What is
+/// shown of the text left out between two lines is blanks with at most one line end among them. What
+/// is shown of the text left out before the first line and after the last is blanks alone. The lines
+/// together with what was left out are the plain text. First fit has no other such lines.
+pub fn shown_lines_lose_blanks_and_line_ends()
+    ensures begin { (x : List ℕ) (width : ℕ) → IsUtf8 x →
+        BeginWithShownBlanks x (shown_lines width x) }
+    ensures left_out { (x : List ℕ) (width : ℕ) → IsUtf8 x →
+        AreShownLinesFrom x 0 (shown_lines width x) }
+    ensures text { (x : List ℕ) (width : ℕ) → IsUtf8 x →
+        reassembled x 0 (shown_lines width x) ≡ x }
+    ensures unique { (x : List ℕ) (width : ℕ) (ls : List (ℕ × ℕ)) → AreShownLines width x ls →
+        ls ≡ shown_lines width x }
 {}
 
 /// A truncated text is whole if its tail is. Its plain text is the prefix of the cell's plain text
