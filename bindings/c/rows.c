@@ -288,28 +288,12 @@ static ansi_str_answer call(const struct row *r, char *buffer, size_t len) {
     return answer;
 }
 
-/* The text has an ESC or another control. */
-static bool has_control(const struct text *t) {
-    for (size_t i = 0; i < t->len; i++) {
-        if ((unsigned char)t->bytes[i] < ' ') {
-            return true;
-        }
-    }
-    return false;
-}
-
-/* Whether a call that shows a text returns it as it is, and so without an allocation. (The text of a cell is made of a tail with a
-   control, whether it is needed or not.) */
+/* Whether a call that shows a text returns it as it is, and so without an allocation. */
 static int is_kept(const struct row *r) {
     static const char *const SHOWING[] = {"truncate", "pad", "fit", "truncate_with", "slice"};
     for (size_t i = 0; i < sizeof SHOWING / sizeof SHOWING[0]; i++) {
         if (strcmp(r->fields[0].bytes, SHOWING[i]) == 0) {
             const struct text *result = &r->fields[2], *t = text_of(r);
-            for (size_t k = 4; k < r->count; k++) {
-                if (has_control(&r->fields[k])) {
-                    return 0;
-                }
-            }
             return status_of(r) == ANSI_STR_OK && result->len == t->len && memcmp(result->bytes, t->bytes, t->len) == 0;
         }
     }

@@ -1,8 +1,15 @@
 -- What a call by columns writes of a text that isn't joined yet.
-use Rattle.std.proofs.Common.{◌≡◌, ◌⊎◌, Bool, true, false, not, ℕ, List, Some, Result, Ok, Err, IsTrue, inl, inr, sym, refl, subst}
+use Rattle.std.proofs.Common.{◌≡◌, ◌⊎◌, Bool, true, false, not, ℕ, List, [], length, ◌&&◌, ◌==◌, Some, Result, Ok, Err, IsTrue, inl, inr, sym, refl, subst, ◌∙◌}
 use Rattle.std.specs.Prelude.{IsOk, IfOk, MatchResult}
-use Rattle.std.proofs.lemmas.Bool.{true≢false}
-use Rattle.ansi_cells.specs.Shown.{shown_bytes, IsLent}
+use Rattle.std.specs.Str.{IsUtf8}
+use Rattle.std.proofs.lemmas.Bool.{true≢false, and_parts, eqb-true}
+use Rattle.std.proofs.lemmas.List.{nil_from_length}
+use Rattle.ansi_safe.specs.Cells.{cell, is_cell}
+use Rattle.ansi_safe.proofs.CellTextLemmas.{cell-stays}
+use Rattle.ansi_cells.proofs.KeptLemmas.{kept-stays}
+use Rattle.ansi_cells.proofs.TailForLemmas.{IsSameCut, ending-same, tail-none}
+use Rattle.ansi_calls.specs.Columns.{is_front}
+use Rattle.ansi_cells.specs.Shown.{shown_bytes, IsLent, has_tail, truncated_ending, closed_cell, KeptStays}
 use Rattle.ansi_cells.specs.Slices.{sliced_bytes, IsLentSlice}
 use Rattle.ansi_cells.specs.declared.shown.Shown.{Shown}
 use Rattle.ansi_cells.specs.declared.slices.Sliced.{Sliced}
@@ -37,3 +44,18 @@ Gives-slice = Gives-unjoined sliced_bytes IsLentSlice
 pub Gives-failed : (absent : ℕ) (stays : Bool) (text : List ℕ) (answer : Answer) (old : List ℕ) → (IsTrue stays → ⊥) → HasFailed out_of_memory answer old old → Gives absent (not stays) (Some text) answer old old
 Gives-failed absent true text answer old never told = absurd (never refl)
 Gives-failed absent false text answer old never told = inr (refl, told)
+
+module _ (t : List ℕ) (width : ℕ) (tail : List ℕ) where
+  front-parts : IsTrue (is_front t width tail) → IsTrue (is_cell t) × (truncated_ending (cell t) width (closed_cell tail) ≡ [])
+  front-parts front =
+      let after = truncated_ending (cell t) width (closed_cell tail) in
+      let parts = and_parts (is_cell t) (length after == 0) front in
+      (parts.0, nil_from_length after (eqb-true (length after) 0 parts.1))
+
+  -- a cell that becomes a front of it stays with any text in the place of the tail, so it is lent
+  pub front-lent : {x : List ℕ} → IsUtf8 t → IsSameCut (cell t) width x (closed_cell tail) → IsTrue (is_front t width tail) → KeptStays t width x × (truncated_ending (cell t) width x ≡ [])
+  front-lent {x} utf8 same front = (kept-stays t width x utf8 (cell-stays t utf8 (front-parts front).0), ending-same same ∙ (front-parts front).1)
+
+  -- and the tail isn't made
+  pub front-tail : IsTrue (is_front t width tail) → IsTrue (has_tail (cell t) width (closed_cell tail)) → closed_cell tail ≡ []
+  front-tail front = tail-none (cell t) (closed_cell tail) width (front-parts front).1

@@ -14,7 +14,7 @@ use Rattle.ansi_clusters.specs.Lines.{shown_lines}
 use Rattle.ansi_clusters.specs.LineWalks.{lines_of_walk, IsLineWalk}
 use Rattle.ansi_clusters.specs.declared.line_walks.LineWalk.{LineWalk}
 use Rattle.ansi_cells.specs.Shown.{truncated, truncated_ending, padded, missing, closing, closed_cell}
-use Rattle.ansi_cells.specs.Sides.{truncated_at}
+use Rattle.ansi_cells.specs.Sides.{is_cut_at_end, truncated_at}
 use Rattle.ansi_cells.specs.Slices.{is_sliced_stretch, sliced}
 use Rattle.ansi_cells.specs.Tabs.{has_tab, expanded}
 use Rattle.ansi_cells.specs.Indents.{wrapped_with}
@@ -43,14 +43,13 @@ TellsFitting t width answer =
 abbrev pub TellsColumn : List ℕ → ℕ → Answer → Type 0
 TellsColumn t position answer = OnUtf8 (t ∷ []) (answer ≡ option_map_or done (column_of t position) (failed refused)) (answer ≡ failed not_utf8)
 
--- the text t is a cell that leaves nothing open
-abbrev pub is_closed_cell : List ℕ → Bool
-is_closed_cell t = is_cell t && length (closing (cell t)) == 0
+-- a cell t truncated to `width` columns is a front of it, as nothing is written after that
+abbrev pub is_front : List ℕ → ℕ → List ℕ → Bool
+is_front t width tail = is_cell t && length (truncated_ending (cell t) width (closed_cell tail)) == 0
 
--- a call writes the text t truncated to `width` columns, and allocates only if its cell isn't t, the tail isn't a closed cell, or something is written after the part that stays
+-- a call writes the text t truncated to `width` columns, and allocates only if its cell isn't t, or something is written after the part that stays
 unfoldable pub GivesTruncated : List ℕ → ℕ → List ℕ → Answer → List ℕ → List ℕ → Type 0
-GivesTruncated t width tail answer old new =
-    Gives no (not (is_cell t && (is_closed_cell tail && length (truncated_ending (cell t) width (closed_cell tail)) == 0))) (Some (truncated (cell t) width (closed_cell tail))) answer old new
+GivesTruncated t width tail answer old new = Gives no (not (is_front t width tail)) (Some (truncated (cell t) width (closed_cell tail))) answer old new
 
 -- `truncate` does so
 abbrev pub Truncates : List ℕ → ℕ → List ℕ → Answer → List ℕ → List ℕ → Type 0
@@ -66,10 +65,12 @@ GivesPadded t width (Some alignment) answer old new =
 abbrev pub Pads : List ℕ → ℕ → ℕ → Answer → List ℕ → List ℕ → Type 0
 Pads t width n answer old new = OnUtf8 (t ∷ []) (GivesPadded t width (alignment_of n) answer old new) (HasFailed not_utf8 answer old new)
 
--- a call writes the text t truncated or padded to `width` columns, and may allocate for any text; it is refused if there is no such alignment
+-- a call writes the text t truncated or padded to `width` columns, and allocates only as if it truncated t and padded what that gives; it is refused if there is no such alignment
 unfoldable pub GivesFitted : List ℕ → ℕ → Option Alignment → List ℕ → Answer → List ℕ → List ℕ → Type 0
 GivesFitted t width None tail answer old new = HasFailed refused answer old new
-GivesFitted t width (Some alignment) tail answer old new = Gives no true (Some (fitted (cell t) width alignment (closed_cell tail))) answer old new
+GivesFitted t width (Some alignment) tail answer old new =
+    let cut = truncated (cell t) width (closed_cell tail) in
+    Gives no (not (is_front t width tail && (missing cut width == 0 && length (closing cut) == 0))) (Some (fitted (cell t) width alignment (closed_cell tail))) answer old new
 
 -- `fit` does so, with the alignment of this number
 abbrev pub Fits : List ℕ → ℕ → ℕ → List ℕ → Answer → List ℕ → List ℕ → Type 0
@@ -79,10 +80,11 @@ Fits t width n tail answer old new = OnUtf8 (t ∷ tail ∷ []) (GivesFitted t w
 abbrev pub side_of : ℕ → Option Side
 side_of n = if n == 0 then Some End else if n == 1 then Some Start else if n == 2 then Some Middle else None
 
--- a call writes the text t truncated to `width` columns at a side, and may allocate for any text; it is refused if there is no such side
+-- a call writes the text t truncated to `width` columns at a side, and allocates only as if it truncated t, or if t is cut before its end; it is refused if there is no such side
 unfoldable pub GivesTruncatedAt : List ℕ → ℕ → List ℕ → Option Side → Answer → List ℕ → List ℕ → Type 0
 GivesTruncatedAt t width tail None answer old new = HasFailed refused answer old new
-GivesTruncatedAt t width tail (Some side) answer old new = Gives no true (Some (truncated_at side (cell t) width (closed_cell tail))) answer old new
+GivesTruncatedAt t width tail (Some side) answer old new =
+    Gives no (not (is_front t width tail && is_cut_at_end side (cell t) width)) (Some (truncated_at side (cell t) width (closed_cell tail))) answer old new
 
 -- `truncate_with` does so, at the side of this number
 abbrev pub TruncatesAt : List ℕ → ℕ → List ℕ → ℕ → Answer → List ℕ → List ℕ → Type 0

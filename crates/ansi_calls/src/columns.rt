@@ -16,7 +16,7 @@ ghost use Rattle.ansi_calls.specs.Columns.{WritesLink};
 use crate::shown::{write_bare, write_shown, write_slice};
 use ansi_columns::bare::{Bare, missing_bare, truncate_bare};
 use ansi_columns::fit::fit_shown;
-use ansi_columns::shown::{Alignment, closed_cell, pad_shown, truncate_shown};
+use ansi_columns::shown::{Alignment, pad_shown, tail_for, truncate_shown};
 use ansi_columns::sides::{Side, Truncation};
 use ansi_columns::{addresses, columns, sides, slices, tabs};
 use ansi_safe::utf8::{Utf8Error, from_utf8};
@@ -110,7 +110,7 @@ fn truncate_text<A: Allocator + Copy>(
 ) -> Answer
     ensures { GivesTruncated text.now width tail.now result buffer.old buffer.new }
 {
-    let Ok(tail) = closed_cell(alloc, tail) else {
+    let Ok(tail) = tail_for(alloc, text, width, tail) else {
         return Answer::failed(OUT_OF_MEMORY);
     };
     let tail = tail.as_str();
@@ -220,7 +220,7 @@ fn fit_text<A: Allocator + Copy>(
 {
     match alignment_of(alignment) {
         Some(alignment) => {
-            let Ok(tail) = closed_cell(alloc, tail) else {
+            let Ok(tail) = tail_for(alloc, text, width, tail) else {
                 return Answer::failed(OUT_OF_MEMORY);
             };
             let tail = tail.as_str();

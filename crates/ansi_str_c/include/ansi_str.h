@@ -1011,7 +1011,7 @@ static inline ansi_str_answer ansi_str_column_of(const char *text, size_t text_l
    "\x1b[2J~" is "~", and what it leaves open is closed. A tail wider than `width` is left out. The link and then the style
    still open at the end of the text are closed before the tail. The result is at most
    tail_len + 2 * (ANSI_STR_LONGEST_LINK_END + ANSI_STR_LONGEST_CLOSE) bytes longer than the text. ANSI_STR_NOT_UTF8: the text
-   or the tail isn't UTF-8. May allocate if it changes the text or the tail, or writes something after what stays of it.
+   or the tail isn't UTF-8. May allocate if it changes the text, or writes something after what stays of it.
    "\x1b[31mabcdef\x1b[39m" in 4 columns with "..." gives "\x1b[31ma\x1b[39m...". */
 static inline ansi_str_answer ansi_str_truncate(const char *text, size_t text_len, size_t width, const char *tail,
                                                 size_t tail_len, char *buffer, size_t buffer_len) {
@@ -1032,7 +1032,8 @@ static inline ansi_str_answer ansi_str_pad(const char *text, size_t text_len, si
 
 /* The text of a table's cell: truncated to `width` columns, as by ansi_str_truncate, and then padded to them, as by ansi_str_pad.
    The result is at most tail_len + width + 3 * (ANSI_STR_LONGEST_LINK_END + ANSI_STR_LONGEST_CLOSE) bytes longer than the text.
-   ANSI_STR_NOT_UTF8: the text or the tail isn't UTF-8. ANSI_STR_REFUSED: there is no such alignment. May allocate for any text.
+   ANSI_STR_NOT_UTF8: the text or the tail isn't UTF-8. ANSI_STR_REFUSED: there is no such alignment. May allocate if it changes
+   the text, or writes anything before or after what stays of it.
    "\x1b[41mabcdef" in 4 columns with "..." gives "\x1b[41ma\x1b[49m...", and in 8 "\x1b[41mabcdef\x1b[49m  ". */
 static inline ansi_str_answer ansi_str_fit(const char *text, size_t text_len, size_t width, uint32_t alignment,
                                            const char *tail, size_t tail_len, char *buffer, size_t buffer_len) {
@@ -1045,7 +1046,8 @@ static inline ansi_str_answer ansi_str_fit(const char *text, size_t text_len, si
    as many as the tail leaves of `width`. With ANSI_STR_START all of these are the last ones; with ANSI_STR_MIDDLE half of them
    are, and if their number is odd, one more of the first ones stays. A tail wider than `width` is left out. The result is at most
    text_len + tail_len + width + 3 * (ANSI_STR_LONGEST_START_AND_CLOSE + ANSI_STR_LONGEST_LINK_END) bytes longer than the text.
-   ANSI_STR_NOT_UTF8: the text or the tail isn't UTF-8. ANSI_STR_REFUSED: there is no such side. May allocate for any text.
+   ANSI_STR_NOT_UTF8: the text or the tail isn't UTF-8. ANSI_STR_REFUSED: there is no such side. May allocate if it changes the
+   text, cuts it before its end, or writes something after what stays of it.
    "\x1b[31m/usr/bin\x1b[39m" in 7 columns with "..." gives "\x1b[31m/u\x1b[39m...\x1b[31min\x1b[39m" with ANSI_STR_MIDDLE, and
    "...\x1b[31m/bin\x1b[39m" with ANSI_STR_START. */
 static inline ansi_str_answer ansi_str_truncate_with(const char *text, size_t text_len, size_t width, const char *tail,
