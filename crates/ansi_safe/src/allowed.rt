@@ -28,6 +28,7 @@ pub(crate) fn item_may_stay(text: &str, item: &Item, links: Links) -> bool
 }
 
 /// Whether an item of this kind may stay.
+#[inline(always)]
 pub(crate) fn may_stay(kind: Kind, piece: &str, links: Links) -> bool
     requires { kind ≡ kind_of (piece_of_kind kind piece.now) }
     ensures { result ≡ may_stay links (piece_of_kind kind piece.now) }
