@@ -54,25 +54,38 @@ fn is_number(plain: &str) -> bool {
     is_whole_number(whole) && are_digits(fraction) && are_digits(without_sign(exponent))
 }
 
+// What a cell shows.
+enum Shows {
+    Number,
+    Path,
+    Words,
+}
+
+// What a cell shows, by its text as a row has it.
+fn what_shows(alloc: Global, text: &str) -> Result<Shows, AllocError> {
+    let plain = text.ansi_strip(alloc)?;
+    if is_number(plain.as_str()) {
+        return Ok(Shows::Number);
+    }
+    if is_path(plain.as_str()) {
+        return Ok(Shows::Path);
+    }
+    Ok(Shows::Words)
+}
+
 // Appends a cell, cut or filled to the width.
 fn push_cell(alloc: Global, row: &mut String, cell: &str, width: usize) -> Result<(), AllocError> {
-    let plain = cell.ansi_strip(alloc)?;
-    let is_number = is_number(plain.as_str());
-    if is_number && width < cell.ansi_width() {
-        write!(row, " {:#<width$} |", "")?;
-        return Ok(());
-    }
-    let side = if is_path(plain.as_str()) {
-        Side::Middle
-    } else {
-        Side::End
+    let shown = cell.ansi_pad(alloc, 0, Alignment::Left)?;
+    let (alignment, side) = match what_shows(alloc, shown.as_str())? {
+        Shows::Number if width < cell.ansi_width() => {
+            write!(row, " {:#<width$} |", "")?;
+            return Ok(());
+        }
+        Shows::Number => (Alignment::Right, Side::End),
+        Shows::Path => (Alignment::Left, Side::Middle),
+        Shows::Words => (Alignment::Left, Side::End),
     };
     let cut = cell.ansi_truncate_with(alloc, &Truncation::to(width).tail("…").side(side))?;
-    let alignment = if is_number {
-        Alignment::Right
-    } else {
-        Alignment::Left
-    };
     let filled = cut.ansi_pad(alloc, width, alignment)?;
     write!(row, " {filled} |")?;
     Ok(())
